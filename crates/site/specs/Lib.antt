@@ -1,0 +1,4 @@
+pub mod Arena
+pub mod Counting
+pub mod Grades
+pub mod Refusals

@@ -1,0 +1,4 @@
+// Sites: finite games between a controller and a floor, and the kinds of site that are built from data.
+pub mod faults;
+pub mod grades;
+pub mod interface;
