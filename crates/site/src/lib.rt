@@ -2,3 +2,7 @@
 pub mod faults;
 pub mod grades;
 pub mod interface;
+pub mod making;
+pub mod sheets;
+pub mod table_site;
+pub mod tables;
