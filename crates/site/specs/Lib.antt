@@ -3,6 +3,7 @@ pub mod Counting
 pub mod CountingLaws
 pub mod Fronts
 pub mod Grades
+pub mod Laid
 pub mod Refusals
 pub mod TableLaws
 pub mod Tables
