@@ -1,0 +1,3 @@
+pub mod Raises
+pub mod Steps
+pub mod Writes
