@@ -1,3 +1,4 @@
 pub mod Lifting
 pub mod Moves
+pub mod Rows
 pub mod Written
