@@ -1,0 +1,3 @@
+// The reader's part: leaves that say what is covered and what is open, and the check of leaves and replies.
+mod arrows;
+pub mod leaves;
