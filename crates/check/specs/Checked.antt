@@ -18,6 +18,11 @@ use Rattle.check.specs.Witness.{covered-count, open-count}
 abbrev pub passed : Result (Unit {0}) Refusal
 passed = Ok tt
 
+-- the first so many tests of a row, from 0 on: passed if all are, and else the first refusal
+abbrev pub in-turn : (ℕ → Result (Unit {0}) Refusal) → ℕ → Result (Unit {0}) Refusal
+in-turn test zero = passed
+in-turn test (suc k) = and-then (in-turn test k) (λ _. test k)
+
 -- the rule of ranks, as a test
 abbrev pub rank-kept : ℕ → ℕ → ℕ → Bool
 rank-kept g r r′ = cond (eqb g 1) (ltb r′ r) (cond (eqb g 2) (leb r′ r) true)
@@ -39,11 +44,9 @@ abbrev pub open-arrow : ℕ → ℕ → ℕ → ℕ → Leaf → Result (Unit {0
 open-arrow s g u w (Covered a r) = refuse 12 s
 open-arrow s g u w (Open u′ w′) = unless (not (numbers-kept g u w u′ w′)) 13 s passed
 
--- the arrows of command a for the first so many events of state s
-abbrev pub events-tested : Arena → List Leaf → ℕ → ℕ → ℕ → ℕ → Result (Unit {0}) Refusal
-events-tested m leaves s a r zero = passed
-events-tested m leaves s a r (suc b) =
-    and-then (events-tested m leaves s a r b) (λ _. covered-arrow s (m .grade s) r (leaf-at leaves (m .next s a b)))
+-- event b against command a of the covered state s
+abbrev pub event-tested : Arena → List Leaf → ℕ → ℕ → ℕ → ℕ → Result (Unit {0}) Refusal
+event-tested m leaves s a r b = covered-arrow s (m .grade s) r (leaf-at leaves (m .next s a b))
 
 -- command a of the open state s: its reply is an event of the state (else 10), and the arrow is tested
 abbrev pub command-tested : Arena → List Leaf → List ℕ → ℕ → ℕ → ℕ → ℕ → Result (Unit {0}) Refusal
@@ -51,27 +54,28 @@ command-tested m leaves replies s u w a =
     unless (leb (m .events s) (reply-at replies s a)) 10 s
     (open-arrow s (m .grade s) u w (leaf-at leaves (m .next s a (reply-at replies s a))))
 
--- the first so many commands of the open state s
-abbrev pub commands-tested : Arena → List Leaf → List ℕ → ℕ → ℕ → ℕ → ℕ → Result (Unit {0}) Refusal
-commands-tested m leaves replies s u w zero = passed
-commands-tested m leaves replies s u w (suc a) =
-    and-then (commands-tested m leaves replies s u w a) (λ _. command-tested m leaves replies s u w a)
-
--- the leaf given for state s: a covered one has a command of the state (else 10) and a rank within its
--- bound (else 11), an open one numbers within their bounds (else 11); then every arrow is tested
-abbrev pub leaf-tested : Arena → List Leaf → List ℕ → ℕ → Leaf → Result (Unit {0}) Refusal
-leaf-tested m leaves replies s (Covered a r) =
+-- a covered leaf of state s with command a and rank r: the command is the state's own (else 10), the
+-- rank is within its bound (else 11), and then every event's arrow is tested
+abbrev pub covered-tested : Arena → List Leaf → ℕ → ℕ → ℕ → Result (Unit {0}) Refusal
+covered-tested m leaves s a r =
     unless (leb (m .commands s) a) 10 s
-    (unless (ltb (graded m 1) r) 11 s (events-tested m leaves s a r (m .events s)))
-leaf-tested m leaves replies s (Open u w) =
-    unless (ltb (graded m 0) u || ltb (graded m 2) w) 11 s
-    (commands-tested m leaves replies s u w (m .commands s))
+    (unless (ltb (graded m 1) r) 11 s (in-turn (event-tested m leaves s a r) (m .events s)))
 
--- the first so many states
-abbrev pub states-tested : Arena → List Leaf → List ℕ → ℕ → Result (Unit {0}) Refusal
-states-tested m leaves replies zero = passed
-states-tested m leaves replies (suc s) =
-    and-then (states-tested m leaves replies s) (λ _. leaf-tested m leaves replies s (leaf-at leaves s))
+-- an open leaf of state s with the numbers u and w: both are within their bounds (else 11), and then
+-- every command is tested
+abbrev pub open-tested : Arena → List Leaf → List ℕ → ℕ → ℕ → ℕ → Result (Unit {0}) Refusal
+open-tested m leaves replies s u w =
+    unless (ltb (graded m 0) u || ltb (graded m 2) w) 11 s
+    (in-turn (command-tested m leaves replies s u w) (m .commands s))
+
+-- the leaf given for state s, by its part
+abbrev pub leaf-tested : Arena → List Leaf → List ℕ → ℕ → Leaf → Result (Unit {0}) Refusal
+leaf-tested m leaves replies s (Covered a r) = covered-tested m leaves s a r
+leaf-tested m leaves replies s (Open u w) = open-tested m leaves replies s u w
+
+-- state s, by its leaf
+abbrev pub state-tested : Arena → List Leaf → List ℕ → ℕ → Result (Unit {0}) Refusal
+state-tested m leaves replies s = leaf-tested m leaves replies s (leaf-at leaves s)
 
 -- how many states are covered and how many are open
 abbrev pub counts : Arena → List Leaf → Counts
@@ -83,4 +87,4 @@ abbrev pub checked : Arena → List Leaf → List ℕ → Result Counts Refusal
 checked m leaves replies =
     unless (ltb (length leaves) (m .states)) 9 (m .states)
     (unless (ltb (length replies) (16 * m .states)) 9 (16 * m .states)
-    (and-then (states-tested m leaves replies (m .states)) (λ _. Ok (counts m leaves))))
+    (and-then (in-turn (state-tested m leaves replies) (m .states)) (λ _. Ok (counts m leaves))))

@@ -2,3 +2,4 @@
 mod arrows;
 mod bounding;
 pub mod leaves;
+mod rules;
