@@ -1,3 +1,5 @@
+pub mod Deciding
+pub mod Laws
 pub mod Outcomes
 pub mod Tallies
 pub mod Turns
