@@ -1,0 +1,47 @@
+// The check of leaves and replies against a site.
+ghost use mathlib.Core.Path.{_≡_};
+ghost use Rattle.std.specs.Orderings.{Decides};
+ghost use Rattle.std.specs.Results.{isOk};
+ghost use Rattle.site.specs.Refusals.{answered};
+ghost use Rattle.check.specs.Witness.{Accepted};
+ghost use Rattle.check.specs.Checked.{checked};
+use site::faults::Fault;
+use site::interface::Site;
+use crate::bounding::bounds_of;
+use crate::leaves::Counts;
+use crate::leaves::Leaf;
+use crate::rules::covered_leaf;
+use crate::rules::open_leaf;
+
+// Tests every state's leaf from state 0 on, and says how many states are covered and how many open, or
+// what is wrong at the first that fails. Its yes means that the leaves and replies are accepted.
+pub fn check<S: Site>(site: &S, leaves: &[Leaf], replies: &[u8]) -> Result<Counts, Fault>
+    ensures outcome { λ r. ⌜ answered r ≡ checked (S·Site .arena (now (site .entry))) (now (leaves .entry)) (now (replies .entry)) ⌝ }
+    ensures law { λ r. ⌜ Decides (isOk r) (Accepted (S·Site .arena (now (site .entry))) (now (leaves .entry)) (now (replies .entry))) ⌝ }
+{
+    let n = site.states();
+    if leaves.len() < n {
+        return Err(Fault::TooShort { needed: n });
+    }
+    if replies.len() < 16 * n {
+        return Err(Fault::TooShort { needed: 16 * n });
+    }
+    let bounds = bounds_of(site, n);
+    let mut counts = Counts {
+        covered: 0,
+        open: 0,
+    };
+    for (s, leaf) in leaves[0..n].iter().enumerate() {
+        match *leaf {
+            Leaf::Covered { command, rank } => {
+                covered_leaf(site, leaves, s, command, rank, bounds)?;
+                counts.covered += 1;
+            }
+            Leaf::Open { first, second } => {
+                open_leaf(site, leaves, replies, s, (first, second), bounds)?;
+                counts.open += 1;
+            }
+        }
+    }
+    Ok(counts)
+}
