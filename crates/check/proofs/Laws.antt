@@ -66,7 +66,7 @@ module _ (m : Arena) (leaves : List Leaf) (replies : List ℕ) where
         bounded-first = h .0 .0;
         bounded-second = h .0 .1;
         own = λ a l. h .1 a l .0;
-        stays = λ a l. h .1 a l .1
+        stays = λ a l. h .1 a l .1;
       })
       (λ k. ((k .bounded-first, k .bounded-second), (λ a l. (k .own a l, k .stays a l))))
       (unless-decides _ 11 s _ (decides-both-within u (graded m 0) w (graded m 2))

@@ -9,15 +9,11 @@ use Rattle.std.proofs.shelf.Tests.{lt-leb, le-leb, le-ltb}
 use Rattle.site.specs.Arena.{Arena, graded}
 use Rattle.site.specs.Refusals.{Refusal, refuse}
 use Rattle.check.specs.declared.leaves.Leaf.{Leaf}
-use Rattle.check.specs.Leaves.{leaf-at, reply-at}
-use Rattle.check.specs.Checked.{passed, in-turn, covered-arrow, open-arrow, event-tested, command-tested, covered-tested, open-tested}
+use Rattle.check.specs.Leaves.{reply-at}
+use Rattle.check.specs.Checked.{passed, in-turn, event-tested, reply-tested, command-tested, covered-tested, open-tested}
 use Rattle.check.proofs.Turns.{turn-refused, turn-end}
 
 module _ (m : Arena) (leaves : List Leaf) (s a r : ℕ) where
-  -- one event's test, from the answers of the site
-  pub event-is : (g t b : ℕ) (o : Result (Unit {0}) Refusal) → g ≡ m .grade s → t ≡ m .next s a b → o ≡ covered-arrow s g r (leaf-at leaves t) → event-tested m leaves s a r b ≡ o
-  event-is g t b o at-grade at-next e = rw (← at-grade, ← at-next) (sym e)
-
   -- a command of the state and a rank within its bound leave the events to test
   covered-rest : a < m .commands s → r ≤ graded m 1 → covered-tested m leaves s a r ≡ in-turn (event-tested m leaves s a r) (m .events s)
   covered-rest own bound = rw (lt-leb _ _ own, le-ltb _ _ bound) refl
@@ -37,9 +33,9 @@ module _ (m : Arena) (leaves : List Leaf) (replies : List ℕ) (s u w : ℕ) whe
   pub reply-refused : (a : ℕ) → m .events s ≤ reply-at replies s a → command-tested m leaves replies s u w a ≡ refuse 10 s
   reply-refused a l = rw (le-leb _ _ l) refl
 
-  -- one command's test, from the answers of the site
-  pub command-is : (g t a : ℕ) (o : Result (Unit {0}) Refusal) → reply-at replies s a < m .events s → g ≡ m .grade s → t ≡ m .next s a (reply-at replies s a) → o ≡ open-arrow s g u w (leaf-at leaves t) → command-tested m leaves replies s u w a ≡ o
-  command-is g t a o own at-grade at-next e = rw (lt-leb _ _ own, ← at-grade, ← at-next) (sym e)
+  -- a reply that is one
+  pub reply-own : (a : ℕ) → reply-at replies s a < m .events s → command-tested m leaves replies s u w a ≡ reply-tested m leaves s u w a (reply-at replies s a)
+  reply-own a l = rw (lt-leb _ _ l) refl
 
   -- numbers within their bounds leave the commands to test
   open-rest : u ≤ graded m 0 → w ≤ graded m 2 → open-tested m leaves replies s u w ≡ in-turn (command-tested m leaves replies s u w) (m .commands s)

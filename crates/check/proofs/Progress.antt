@@ -1,6 +1,6 @@
 -- How far the check has come: the states done have passed and are counted.
-use Prim.Native.Nat.{ℕ, _+_, _-_, _*_, _≤_, _<_, min}
-use mathlib.Core.Path.{_≡_, refl, sym, _∙_, ap}
+use Prim.Native.Nat.{ℕ, _+_, _-_, _*_, _≤_, _<_}
+use mathlib.Core.Path.{_≡_, refl, sym, _∙_}
 use mathlib.Core.Bool.{Bool, true, false, not}
 use mathlib.Core.List.{List}
 use lib.ListN.{length, getD, take}
@@ -13,7 +13,6 @@ use Rattle.site.specs.Arena.{Arena}
 use Rattle.site.specs.Counting.{count}
 use Rattle.site.specs.Refusals.{Refusal, and-then}
 use Rattle.check.specs.declared.leaves.Leaf.{Leaf}
-use Rattle.check.specs.declared.leaves.Leaf.the-variants.{Covered, Open}
 use Rattle.check.specs.declared.leaves.Counts.{Counts}
 use Rattle.check.specs.Leaves.{leaf-at, is-covered}
 use Rattle.check.specs.Checked.{in-turn, leaf-tested, state-tested, passed, counts, checked}
@@ -31,32 +30,32 @@ pub record Progress (m : Arena) (leaves : List Leaf) (replies : List ℕ) (s : �
 pub front-below : {X : Type 0} (n : ℕ) (xs : List X) (i : ℕ) → i < length (take (n - 0) xs) → i < n
 front-below n xs i l = omega (arith, length-take (n - 0) xs)
 
-pub front-at : {X : Type 0} (n : ℕ) (xs : List X) (i : ℕ) (d x : X) → i < length (take (n - 0) xs) → getD (take (n - 0) xs) i d ≡ x → getD xs i d ≡ x
-front-at n xs i d x l e = sym (getD-take (n - 0) xs i d (omega (arith, length-take (n - 0) xs))) ∙ e
+pub front-at : {X : Type 0} (n : ℕ) (xs : List X) (i : ℕ) (d : X) → i < length (take (n - 0) xs) → getD xs i d ≡ getD (take (n - 0) xs) i d
+front-at n xs i d l = sym (getD-take (n - 0) xs i d (omega (arith, length-take (n - 0) xs)))
 
 module _ (m : Arena) (leaves : List Leaf) (replies : List ℕ) (s : ℕ) (c : Counts) (p : Progress m leaves replies s c) where
   -- one more covered state
-  pub one-covered : (a r : ℕ) (c′ : Counts) → leaf-at leaves s ≡ Covered a r → leaf-tested m leaves replies s (Covered a r) ≡ passed → c′ ≡ record { covered = c .covered + 1; «open» = c .«open» } → Progress m leaves replies (s + 1) c′
-  one-covered a r c′ at test e =
+  pub one-covered : (leaf : Leaf) (c′ : Counts) → leaf-at leaves s ≡ leaf → leaf-tested m leaves replies s leaf ≡ passed → is-covered leaf ≡ true → c′ ≡ record { covered = c .covered + 1; «open» = c .«open» } → Progress m leaves replies (s + 1) c′
+  one-covered leaf c′ at test part e =
       rw e
       (record {
         tested = turn-passed (state-tested m leaves replies) s (p .tested) (rw at test);
-        covered = tally-hit _ s _ (p .covered) (ap is-covered at);
-        uncovered = tally-miss _ s _ (p .uncovered) (ap (λ leaf. not (is-covered leaf)) at);
+        covered = tally-hit _ s _ (p .covered) (rw at part);
+        uncovered = tally-miss _ s _ (p .uncovered) (rw (at, part) refl);
         few-covered = omega arith;
-        few-uncovered = omega arith
+        few-uncovered = omega arith;
       })
 
   -- one more open state
-  pub one-open : (u w : ℕ) (c′ : Counts) → leaf-at leaves s ≡ Open u w → leaf-tested m leaves replies s (Open u w) ≡ passed → c′ ≡ record { covered = c .covered; «open» = c .«open» + 1 } → Progress m leaves replies (s + 1) c′
-  one-open u w c′ at test e =
+  pub one-open : (leaf : Leaf) (c′ : Counts) → leaf-at leaves s ≡ leaf → leaf-tested m leaves replies s leaf ≡ passed → is-covered leaf ≡ false → c′ ≡ record { covered = c .covered; «open» = c .«open» + 1 } → Progress m leaves replies (s + 1) c′
+  one-open leaf c′ at test part e =
       rw e
       (record {
         tested = turn-passed (state-tested m leaves replies) s (p .tested) (rw at test);
-        covered = tally-miss _ s _ (p .covered) (ap is-covered at);
-        uncovered = tally-hit _ s _ (p .uncovered) (ap (λ leaf. not (is-covered leaf)) at);
+        covered = tally-miss _ s _ (p .covered) (rw at part);
+        uncovered = tally-hit _ s _ (p .uncovered) (rw (at, part) refl);
         few-covered = omega arith;
-        few-uncovered = omega arith
+        few-uncovered = omega arith;
       })
 
   module _ (enough-leaves : m .states ≤ length leaves) (enough-replies : 16 * m .states ≤ length replies) where

@@ -54,7 +54,7 @@ module _ (grade : ℕ → ℕ) (i : ℕ) (b : Bounds) (t : Tallied grade i b) wh
         ordinary = miss 2 _ (t .ordinary) (λ e. omega arith);
         few-confirmed = omega arith;
         few-doubted = omega arith;
-        few-ordinary = omega arith
+        few-ordinary = omega arith;
       }
   tallied-by Doubted h =
       record {
@@ -63,7 +63,7 @@ module _ (grade : ℕ → ℕ) (i : ℕ) (b : Bounds) (t : Tallied grade i b) wh
         ordinary = miss 2 _ (t .ordinary) (λ e. omega arith);
         few-confirmed = omega arith;
         few-doubted = omega arith;
-        few-ordinary = omega arith
+        few-ordinary = omega arith;
       }
   tallied-by Ordinary h =
       record {
@@ -72,7 +72,7 @@ module _ (grade : ℕ → ℕ) (i : ℕ) (b : Bounds) (t : Tallied grade i b) wh
         ordinary = hit 2 _ (t .ordinary) h;
         few-confirmed = omega arith;
         few-doubted = omega arith;
-        few-ordinary = omega arith
+        few-ordinary = omega arith;
       }
 
   -- the counts after the grade of state i was added

@@ -20,8 +20,8 @@ module _ (test : ℕ → Result (Unit {0}) Refusal) where
   turn-refused zero k e l before here = let no : ⊥ = omega arith in absurd no
   turn-refused (suc n) k e l before here =
       elim (cases-eq k n) [
-        inl same ↦ rw (← same, before) here
-      | inr apart ↦ rw (turn-refused n k e (omega arith) before here) refl
+        | inl same ↦ rw (← same, before) here
+        | inr apart ↦ rw (turn-refused n k e (omega arith) before here) refl
       ]
 
   -- all tests passed

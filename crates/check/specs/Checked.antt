@@ -48,11 +48,14 @@ open-arrow s g u w (Open u′ w′) = unless (not (numbers-kept g u w u′ w′)
 abbrev pub event-tested : Arena → List Leaf → ℕ → ℕ → ℕ → ℕ → Result (Unit {0}) Refusal
 event-tested m leaves s a r b = covered-arrow s (m .grade s) r (leaf-at leaves (m .next s a b))
 
--- command a of the open state s: its reply is an event of the state (else 10), and the arrow is tested
+-- command a of the open state s against event b
+abbrev pub reply-tested : Arena → List Leaf → ℕ → ℕ → ℕ → ℕ → ℕ → Result (Unit {0}) Refusal
+reply-tested m leaves s u w a b = open-arrow s (m .grade s) u w (leaf-at leaves (m .next s a b))
+
+-- command a of the open state s: its reply is an event of the state (else 10), and is tested
 abbrev pub command-tested : Arena → List Leaf → List ℕ → ℕ → ℕ → ℕ → ℕ → Result (Unit {0}) Refusal
 command-tested m leaves replies s u w a =
-    unless (leb (m .events s) (reply-at replies s a)) 10 s
-    (open-arrow s (m .grade s) u w (leaf-at leaves (m .next s a (reply-at replies s a))))
+    unless (leb (m .events s) (reply-at replies s a)) 10 s (reply-tested m leaves s u w a (reply-at replies s a))
 
 -- a covered leaf of state s with command a and rank r: the command is the state's own (else 10), the
 -- rank is within its bound (else 11), and then every event's arrow is tested

@@ -3,9 +3,9 @@ ghost use mathlib.Core.Path.{_≡_};
 ghost use Rattle.site.specs.Refusals.{answered};
 ghost use Rattle.site.specs.Grades.{grade-number};
 ghost use Rattle.check.specs.Checked.{rank-kept, numbers-kept, covered-arrow, open-arrow};
+use crate::leaves::Leaf;
 use site::faults::Fault;
 use site::grades::Grade;
-use crate::leaves::Leaf;
 
 // Whether the rank after `rank` keeps the rule of a state of this grade.
 fn keeps_rank(grade: Grade, rank: u16, after: u16) -> bool

@@ -1,7 +1,6 @@
 // How many states of each grade a site has: the bounds of the numbers in leaves.
 ghost use mathlib.Core.Path.{_≡_};
-ghost use lib.Dec.{eqb};
-ghost use Rattle.site.specs.Counting.{count};
+ghost use Rattle.check.specs.Bounded.{Bounded};
 use site::grades::Grade;
 use site::interface::Site;
 
@@ -12,11 +11,10 @@ pub(crate) struct Bounds {
     pub(crate) ordinary: usize,
 }
 
-// The grades of the first `n` states, counted.
+// The grades of the states, counted; `n` says how many states there are.
 pub(crate) fn bounds_of<S: Site>(site: &S, n: usize) -> Bounds
-    ensures confirmed { λ r. ⌜ r .confirmed ≡ count (λ s. eqb (S·Site .arena (now (site .entry)) .grade s) 0) n ⌝ }
-    ensures doubted { λ r. ⌜ r .doubted ≡ count (λ s. eqb (S·Site .arena (now (site .entry)) .grade s) 1) n ⌝ }
-    ensures ordinary { λ r. ⌜ r .ordinary ≡ count (λ s. eqb (S·Site .arena (now (site .entry)) .grade s) 2) n ⌝ }
+    requires { ⌜ n ≡ S·Site .arena (now site) .states ⌝ }
+    ensures { λ r. ⌜ Bounded (S·Site .arena (now (site .entry))) r ⌝ }
 {
     let mut bounds = Bounds {
         confirmed: 0,

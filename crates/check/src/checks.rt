@@ -5,13 +5,13 @@ ghost use Rattle.std.specs.Results.{isOk};
 ghost use Rattle.site.specs.Refusals.{answered};
 ghost use Rattle.check.specs.Witness.{Accepted};
 ghost use Rattle.check.specs.Checked.{checked};
-use site::faults::Fault;
-use site::interface::Site;
 use crate::bounding::bounds_of;
 use crate::leaves::Counts;
 use crate::leaves::Leaf;
-use crate::rules::covered_leaf;
-use crate::rules::open_leaf;
+use crate::leaves::PLACES;
+use crate::rules::keeps_rule;
+use site::faults::Fault;
+use site::interface::Site;
 
 // Tests every state's leaf from state 0 on, and says how many states are covered and how many open, or
 // what is wrong at the first that fails. Its yes means that the leaves and replies are accepted.
@@ -23,8 +23,8 @@ pub fn check<S: Site>(site: &S, leaves: &[Leaf], replies: &[u8]) -> Result<Count
     if leaves.len() < n {
         return Err(Fault::TooShort { needed: n });
     }
-    if replies.len() < 16 * n {
-        return Err(Fault::TooShort { needed: 16 * n });
+    if replies.len() < PLACES * n {
+        return Err(Fault::TooShort { needed: PLACES * n });
     }
     let bounds = bounds_of(site, n);
     let mut counts = Counts {
@@ -32,15 +32,10 @@ pub fn check<S: Site>(site: &S, leaves: &[Leaf], replies: &[u8]) -> Result<Count
         open: 0,
     };
     for (s, leaf) in leaves[0..n].iter().enumerate() {
-        match *leaf {
-            Leaf::Covered { command, rank } => {
-                covered_leaf(site, leaves, s, command, rank, bounds)?;
-                counts.covered += 1;
-            }
-            Leaf::Open { first, second } => {
-                open_leaf(site, leaves, replies, s, (first, second), bounds)?;
-                counts.open += 1;
-            }
+        keeps_rule(site, leaves, replies, s, *leaf, bounds)?;
+        match leaf {
+            Leaf::Covered { .. } => counts.covered += 1,
+            Leaf::Open { .. } => counts.open += 1,
         }
     }
     Ok(counts)

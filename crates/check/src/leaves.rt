@@ -12,6 +12,9 @@ pub enum Leaf {
     Open { first: u16, second: u16 },
 }
 
+// How many reply places each state has, one for each command that a state may have.
+pub const PLACES: usize = 16;
+
 // How many states are covered and how many are open.
 #[derive(Clone, Copy, PartialEq, Eq, Debug)]
 pub struct Counts {

@@ -4,3 +4,4 @@ mod bounding;
 pub mod checks;
 pub mod leaves;
 mod rules;
+mod steps;

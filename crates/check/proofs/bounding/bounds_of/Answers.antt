@@ -15,23 +15,23 @@ loop-s-holds g c =
       ordinary = refl;
       few-confirmed = omega arith;
       few-doubted = omega arith;
-      few-ordinary = omega arith
+      few-ordinary = omega arith;
     }
 
 pub loop-s-again : need.loop-s-again
 loop-s-again g c =
     elim (c .match-grade .came) [
-      in-Confirmed w ↦ tallied-next _ _ _ (c .loop-s .inv) Confirmed _ (w .in-Confirmed .ensures tt) (w .bounds-is)
-    | in-Doubted w ↦ tallied-next _ _ _ (c .loop-s .inv) Doubted _ (w .in-Doubted .ensures tt) (w .bounds-is)
-    | in-Ordinary w ↦ tallied-next _ _ _ (c .loop-s .inv) Ordinary _ (w .in-Ordinary .ensures tt) (w .bounds-is)
+      | in-Confirmed w ↦ tallied-next _ _ _ (c .loop-s .inv) Confirmed _ (w .in-Confirmed .ensures tt) (w .bounds-is)
+      | in-Doubted w ↦ tallied-next _ _ _ (c .loop-s .inv) Doubted _ (w .in-Doubted .ensures tt) (w .bounds-is)
+      | in-Ordinary w ↦ tallied-next _ _ _ (c .loop-s .inv) Ordinary _ (w .in-Ordinary .ensures tt) (w .bounds-is)
     ]
 
 pub returns : need.returns
 returns g c =
-    let done : c .loop-s .s ≤ c .args .n = omega arith in
-    let all : c .args .n ≤ c .loop-s .s = omega arith in
+    let done : c .loop-s .s ≤ g .S·Site .arena (c .args .site .now) .states = omega arith in
+    let all : g .S·Site .arena (c .args .site .now) .states ≤ c .loop-s .s = omega arith in
     record {
       confirmed = tally-end _ _ _ _ (c .loop-s .inv .confirmed) done all;
       doubted = tally-end _ _ _ _ (c .loop-s .inv .doubted) done all;
-      ordinary = tally-end _ _ _ _ (c .loop-s .inv .ordinary) done all
+      ordinary = tally-end _ _ _ _ (c .loop-s .inv .ordinary) done all;
     }

@@ -1,10 +1,4 @@
 -- The states before s have passed, and they are counted by their parts.
-use Prim.Native.Nat.{_≤_}
-use mathlib.Core.Path.{_≡_}
-use mathlib.Core.Bool.{not}
-use Rattle.site.specs.Counting.{count}
-use Rattle.check.specs.Leaves.{leaf-at, is-covered}
-use Rattle.check.specs.Checked.{in-turn, state-tested, passed}
 use Rattle.check.proofs.Progress.{Progress}
 use Rattle.check.proofs.checks.check.Given as given
 

@@ -1,11 +1,8 @@
--- A state's replies lie within the slice and the next state has a leaf; the commands pass in turn or
--- one is refused.
-use Prim.Native.Nat.{_≤_, _<_}
-use mathlib.Core.Path.{refl}
+-- A state's replies lie within the slice; the commands pass in turn, or one is refused.
+use mathlib.Core.Path.{refl, sym, _∙_}
 use native.Mathlib.Omega.{arith}
 use Rattle.std.proofs.shelf.Results.{err-from-errBy}
-use Rattle.check.specs.Leaves.{reply-at}
-use Rattle.check.proofs.Outcomes.{reply-refused, command-is, open-refused, open-passed}
+use Rattle.check.proofs.Outcomes.{reply-refused, reply-own, open-refused, open-passed}
 use Rattle.check.proofs.Turns.{turn-passed}
 use Rattle.check.proofs.rules.open_leaf.Needs as need
 
@@ -30,36 +27,20 @@ returns-then-event-events g c =
     (reply-refused m (c .args .leaves .now) (c .args .replies .now) (c .args .s) (c .args .here .0) (c .args .here .1)
     (c .loop-a .a) (omega arith))
 
-pub offset-leaves-next : need.offset-leaves-next
-offset-leaves-next g c =
-    let law = g .S·Site .lawful (c .args .site .now) in
-    omega (arith, law .limited,
-    law .closed (c .args .s) (c .loop-a .a) (reply-at (c .args .replies .now) (c .args .s) (c .loop-a .a)) (omega arith) (omega arith) (omega arith))
-
-pub index-leaves-next : need.index-leaves-next
-index-leaves-next g c =
-    let law = g .S·Site .lawful (c .args .site .now) in
-    omega (arith,
-    law .closed (c .args .s) (c .loop-a .a) (reply-at (c .args .replies .now) (c .args .s) (c .loop-a .a)) (omega arith) (omega arith) (omega arith))
-
-pub returns-in-Break-open-arrow : need.returns-in-Break-open-arrow
-returns-in-Break-open-arrow g c =
+pub returns-in-Break-open-step : need.returns-in-Break-open-step
+returns-in-Break-open-step g c =
     let m = g .S·Site .arena (c .args .site .now) in
     let p = err-from-errBy (c .from-residual .result) (c .from-residual .ensures .1) in
     rw (p .1, p .2)
     (open-refused m (c .args .leaves .now) (c .args .replies .now) (c .args .s) (c .args .here .0) (c .args .here .1)
     (omega arith) (omega arith) (c .loop-a .a) _ (omega arith) (c .loop-a .inv)
-    (command-is m (c .args .leaves .now) (c .args .replies .now) (c .args .s) (c .args .here .0) (c .args .here .1)
-    _ (c .next .result) (c .loop-a .a) _
-    (omega arith) (c .grade-grade .ensures) (c .next .ensures) (c .in-Break-open-arrow .ensures tt)))
+    (reply-own m (c .args .leaves .now) (c .args .replies .now) (c .args .s) (c .args .here .0) (c .args .here .1) (c .loop-a .a) (omega arith) ∙ sym (c .in-Break-open-step .ensures tt)))
 
 pub loop-a-again : need.loop-a-again
 loop-a-again g c =
     let m = g .S·Site .arena (c .args .site .now) in
     turn-passed _ (c .loop-a .a) (c .loop-a .inv)
-    (command-is m (c .args .leaves .now) (c .args .replies .now) (c .args .s) (c .args .here .0) (c .args .here .1)
-    _ (c .next .result) (c .loop-a .a) _
-    (omega arith) (c .grade-grade .ensures) (c .next .ensures) (c .in-Continue-open-arrow .ensures tt))
+    (reply-own m (c .args .leaves .now) (c .args .replies .now) (c .args .s) (c .args .here .0) (c .args .here .1) (c .loop-a .a) (omega arith) ∙ sym (c .in-Continue-open-step .ensures tt))
 
 pub returns : need.returns
 returns g c =
