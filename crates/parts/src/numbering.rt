@@ -1,6 +1,6 @@
 // The numbers of all states, in the caller's work slice.
 ghost use mathlib.Core.Path.{_≡_};
-ghost use Prim.Native.Nat.{_*_, _≤_};
+ghost use Prim.Native.Nat.{_*_, _<_};
 ghost use lib.ListN.{length, drop};
 ghost use Rattle.site.specs.Refusals.{answered};
 ghost use Rattle.parts.specs.Rows.{numbered};
@@ -25,6 +25,7 @@ fn fill_rows<S: Site>(site: &S, work: &mut [u16])
 // the next N the second numbers.
 pub fn number_states<S: Site>(site: &S, work: &mut [u16]) -> Result<usize, Fault>
     ensures outcome { λ r. ⌜ answered r ≡ numbered (S·Site .arena (now (site .entry))) (length (now (work .entry))) ⌝ }
+    ensures refused { λ _. ⌜ (length (now (work .entry)) < 4 * S·Site .arena (now (site .entry)) .states → now (work .exit) ≡ now (work .entry)) ⌝ }
     ensures beyond { λ _. ⌜ drop (4 * S·Site .arena (now (site .entry)) .states) (now (work .exit)) ≡ drop (4 * S·Site .arena (now (site .entry)) .states) (now (work .entry)) ⌝ }
 {
     let n = site.states();

@@ -7,7 +7,7 @@ use mathlib.Core.Path.{_≡_, refl, sym, _∙_, ap}
 use mathlib.Core.List.{List, [], _∷_, _++_}
 use mathlib.Core.Logic.{_≢_}
 use lib.ListN.{length, set, take, drop, getD, length-set}
-use Rattle.std.proofs.shelf.Lists.{getD-set-same, getD-set-other, getD-past, set-past}
+use Rattle.std.proofs.shelf.Lists.{getD-set-same, getD-set-other, take-append-drop, take-set-le, drop-set-add}
 use Rattle.std.proofs.shelf.Edits.{sets, sets-eq}
 use Rattle.site.specs.Laid.{laid}
 
@@ -77,3 +77,12 @@ module _ {X : Type 0} where
   -- entries at the front
   pub laid-whole : (xs ys : List X) → length xs ≤ length ys → laid 0 xs ys ≡ xs ++ drop (length xs) ys
   laid-whole xs ys le = laid-is 0 xs ys (omega arith) ∙ rw zero-add refl
+
+module _ {X : Type 0} where
+  -- entries written over the part of a slice from k on
+  pub laid-part : (k j : ℕ) (ys xs : List X) → k ≤ length xs → take k xs ++ laid j ys (drop k xs) ≡ laid (k + j) ys xs
+  unfolding laid
+  laid-part k j [] xs le = take-append-drop k xs
+  laid-part k j (y ∷ ys) xs le =
+      let cut : take k (set xs (k + j) y) ≡ take k xs = take-set-le k xs (k + j) y (omega arith) in
+      rw (← drop-set-add k xs j y, ← cut) (laid-part k (suc j) ys (set xs (k + j) y) (rw length-set le) ∙ rw add-suc refl)

@@ -8,5 +8,6 @@ pub returns : need.returns
 returns g c =
     record {
       outcome = search needs;
+      refused = λ short. absurd (omega (arith, short));
       beyond = drop-append-drop (4 * c .states-n .result - 0) (c .args .work .now) (c .fill-rows .last .work) (4 * g .S·Site .arena (c .args .site .now) .states) (omega arith) (omega arith);
     }

@@ -1,0 +1,4 @@
+pub mod Fills
+pub mod Lowest
+pub mod Progress
+pub mod Shorts
