@@ -1,19 +1,17 @@
 -- The check says yes exactly where the leaves and replies are accepted.
-use Prim.Native.Nat.{ℕ, _*_, _≤_, _<_}
-use mathlib.Core.Path.{_≡_, refl, _∙_, ap}
-use mathlib.Core.Bool.{Bool, true, false, not, _&&_, _||_, cond}
+use Prim.Native.Nat.{ℕ, _*_, _<_}
+use mathlib.Core.Path.{_≡_, _∙_, ap}
+use mathlib.Core.Bool.{not}
 use mathlib.Core.List.{List}
 use native.Mathlib.Omega.{arith}
-use lib.Dec.{leb, ltb, eqb}
 use lib.ListN.{length}
 use Rattle.std.specs.Orderings.{Decides}
 use Rattle.std.specs.Results.{isOk}
 use Rattle.std.specs.declared.result.Result.{Result}
-use Rattle.std.specs.declared.result.Result.the-variants.{Ok, Err}
 use Rattle.std.proofs.shelf.Ways.{tells, decides-at, decides-like}
 use Rattle.site.specs.Arena.{Arena, graded}
 use Rattle.site.specs.declared.faults.Fault.{Fault}
-use Rattle.site.specs.Refusals.{Refusal, answered}
+use Rattle.site.specs.Refusals.{answered}
 use Rattle.check.specs.declared.leaves.Leaf.{Leaf}
 use Rattle.check.specs.declared.leaves.Leaf.the-variants.{Covered, Open}
 use Rattle.check.specs.declared.leaves.Counts.{Counts}
@@ -82,7 +80,7 @@ module _ (m : Arena) (leaves : List Leaf) (replies : List ℕ) where
   leaf-decides s (Open u w) = open-decides s u w
 
   -- the whole check
-  checked-decides : Decides (isOk (checked m leaves replies)) (Accepted m leaves replies)
+  pub checked-decides : Decides (isOk (checked m leaves replies)) (Accepted m leaves replies)
   checked-decides =
       decides-like _
       (λ h. record { enough-leaves = h .0; enough-replies = h .1 .0; keeps = h .1 .1 })

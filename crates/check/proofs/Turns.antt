@@ -1,13 +1,13 @@
 -- Tests taken in turn: one more passed, the first that is refused, all done.
 use Prim.Native.Nat.{ℕ, zero, suc, _+_, _≤_, _<_}
-use mathlib.Core.Path.{_≡_, refl, sym, _∙_, ap}
-use mathlib.Core.Logic.{_⊎_, inl, inr}
+use mathlib.Core.Path.{_≡_, refl}
+use mathlib.Core.Logic.{inl, inr}
 use native.Mathlib.Numerals.{add-one}
 use native.Mathlib.Omega.{arith}
 use Rattle.std.specs.declared.result.Result.{Result}
-use Rattle.std.specs.declared.result.Result.the-variants.{Ok, Err}
+use Rattle.std.specs.declared.result.Result.the-variants.{Err}
 use Rattle.std.proofs.shelf.Tests.{cases-eq}
-use Rattle.site.specs.Refusals.{Refusal, and-then}
+use Rattle.site.specs.Refusals.{Refusal}
 use Rattle.check.specs.Checked.{passed, in-turn}
 
 module _ (test : ℕ → Result (Unit {0}) Refusal) where

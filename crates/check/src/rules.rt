@@ -2,7 +2,6 @@
 ghost use Prim.Native.Nat.{_*_, _<_, _≤_};
 ghost use mathlib.Core.Path.{_≡_};
 ghost use lib.ListN.{length};
-ghost use Rattle.site.specs.Arena.{graded};
 ghost use Rattle.site.specs.Refusals.{answered};
 ghost use Rattle.check.specs.Checked.{covered-tested, open-tested, leaf-tested};
 ghost use Rattle.check.specs.Bounded.{Bounded};

@@ -30,7 +30,7 @@ pub(crate) fn covered_step<S: Site>(
     covered_arrow(s, grade, rank, leaves[after])
 }
 
-// Command `a` of the open state `s` against event `b`, its reply.
+// Command `a` of the open state `s` against its reply.
 pub(crate) fn open_step<S: Site>(
     site: &S,
     leaves: &[Leaf],
@@ -38,12 +38,12 @@ pub(crate) fn open_step<S: Site>(
     grade: Grade,
     here: (u16, u16),
     a: usize,
-    b: usize,
+    reply: usize,
 ) -> Result<(), Fault>
     requires leaves { ⌜ S·Site .arena (now site) .states ≤ length (now leaves) ⌝ }
     requires grade { ⌜ grade-number grade ≡ S·Site .arena (now site) .grade s ⌝ }
-    ensures { λ r. ⌜ answered r ≡ reply-tested (S·Site .arena (now (site .entry))) (now (leaves .entry)) s (here .0) (here .1) a b ⌝ }
+    ensures { λ r. ⌜ answered r ≡ reply-tested (S·Site .arena (now (site .entry))) (now (leaves .entry)) s (here .0) (here .1) a reply ⌝ }
 {
-    let after = site.next(s, a, b);
+    let after = site.next(s, a, reply);
     open_arrow(s, grade, here, leaves[after])
 }
