@@ -78,3 +78,19 @@ arrow-body n at (hi ∷ (lo ∷ left)) =
 -- an arrow is of kind 3
 abbrev pub arrow-in : ℕ → ℕ → List ℕ → Result (Found ℕ) Refusal
 arrow-in n at = of-kind 3 at (arrow-body n at)
+
+-- arrows that were read, the offset after them, and the bytes that are left
+pub record Arrows : Type 0 where
+  pub aims : List ℕ
+  pub at : ℕ
+  pub left : List ℕ
+
+-- one arrow more
+abbrev pub one-arrow : ℕ → Arrows → Result Arrows Refusal
+one-arrow n rd =
+    and-then (arrow-in n (rd .at) (rd .left)) (λ arrow.
+    Ok (record { aims = rd .aims ++ arrow .what ∷ []; at = rd .at + 3; left = arrow .left }))
+
+-- k arrows, from the offset `at` on
+abbrev pub arrows-in : ℕ → ℕ → ℕ → List ℕ → Result Arrows Refusal
+arrows-in n k at bs = repeated (one-arrow n) k (record { aims = []; at = at; left = bs })

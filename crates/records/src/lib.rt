@@ -1,2 +1,3 @@
 // Records: a table as bytes, and the lines of a listing.
-pub mod record_bytes;
+mod record_bytes;
+mod scanning;
