@@ -5,7 +5,8 @@ use mathlib.Core.List.{List}
 use lib.ListN.{length}
 use Rattle.std.specs.declared.result.Result.the-variants.{Ok}
 use Rattle.site.specs.Laid.{laid}
-use Rattle.records.specs.TableBytes.{Arrows, arrows-in}
+use Rattle.site.specs.declared.sheets.Row.{Row}
+use Rattle.records.specs.TableBytes.{Arrows, arrows-in, Read, states-in}
 
 -- k arrows were read from the bytes bs at the offset `start`, as far as the offset `at` with `left` to
 -- come, and are laid over the sheet from `first` on
@@ -15,3 +16,16 @@ pub record ArrowsDone (n first start : ℕ) (bs before : List ℕ) (k at : ℕ) 
   pub read : arrows-in n k start bs ≡ Ok (record { aims = aims; at = at; left = left })
   pub within : at + length left ≤ start + length bs
   pub sheet : after ≡ laid first aims before
+
+-- k of n states were read from the bytes bs after the head, with `total` arrows, as far as the offset `at`
+-- with `left` to come, and are laid over both sheets from their fronts on
+pub record StatesDone (n : ℕ) (bs : List ℕ) (old-rows : List Row) (old-arrows : List ℕ) (k total at : ℕ) (left : List ℕ) (new-rows : List Row) (new-arrows : List ℕ) : Type 0 where
+  pub rows : List Row
+  pub arrows : List ℕ
+  pub many-rows : length rows ≡ k
+  pub many-arrows : length arrows ≡ total
+  pub few-arrows : total ≤ 16384
+  pub read : states-in n k bs ≡ Ok (record { rows = rows; arrows = arrows; at = at; left = left })
+  pub within : at + length left ≤ 3 + length bs
+  pub row-sheet : new-rows ≡ laid 0 rows old-rows
+  pub arrow-sheet : new-arrows ≡ laid 0 arrows old-arrows

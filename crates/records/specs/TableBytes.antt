@@ -94,3 +94,21 @@ one-arrow n rd =
 -- k arrows, from the offset `at` on
 abbrev pub arrows-in : ℕ → ℕ → ℕ → List ℕ → Result Arrows Refusal
 arrows-in n k at bs = repeated (one-arrow n) k (record { aims = []; at = at; left = bs })
+
+-- what was read of a table: its rows and its arrows, the offset after them, and the bytes that are left
+pub record Read : Type 0 where
+  pub rows : List Row
+  pub arrows : List ℕ
+  pub at : ℕ
+  pub left : List ℕ
+
+-- one state more: its row, and then the row's arrows
+abbrev pub one-state : ℕ → Read → Result Read Refusal
+one-state n rd =
+    and-then (row-in (rd .at) (length (rd .arrows)) (rd .left)) (λ row.
+    and-then (arrows-in n (row .what .commands * row .what .events) (rd .at + 4) (row .left)) (λ more.
+    Ok (record { rows = rd .rows ++ row .what ∷ []; arrows = rd .arrows ++ more .aims; at = more .at; left = more .left })))
+
+-- k of n states, from the bytes after the head
+abbrev pub states-in : ℕ → ℕ → List ℕ → Result Read Refusal
+states-in n k bs = repeated (one-state n) k (record { rows = []; arrows = []; at = 3; left = bs })

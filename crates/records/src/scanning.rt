@@ -4,10 +4,12 @@ ghost use Prim.Native.Nat.{_≤_, _<_, _+_, _*_, _^_};
 ghost use lib.ListN.{length};
 ghost use Rattle.std.specs.declared.result.Result.the-variants.{Ok, Err};
 ghost use Rattle.site.specs.Refusals.{told};
-ghost use Rattle.records.specs.TableBytes.{arrows-in};
-ghost use Rattle.records.specs.Scanning.{ArrowsDone};
+ghost use Rattle.records.specs.TableBytes.{arrows-in, states-in};
+ghost use Rattle.records.specs.Scanning.{ArrowsDone, StatesDone};
 use crate::record_bytes::read_arrow;
+use crate::record_bytes::read_row;
 use site::faults::Fault;
+use site::sheets::Row;
 
 // `count` arrows, the first of which is number `first`; the offset and the bytes after them.
 fn read_arrows<'a>(states: usize, count: usize, start: usize, bytes: &'a [u8], first: usize, arrows: &mut [u16]) -> Result<(usize, &'a [u8]), Fault>
@@ -27,4 +29,26 @@ fn read_arrows<'a>(states: usize, count: usize, start: usize, bytes: &'a [u8], f
         left = rest;
     }
     Ok((at, left))
+}
+
+// All states with their arrows; the number of arrows, and the offset and the bytes after them.
+fn read_states<'a>(states: usize, bytes: &'a [u8], rows: &mut [Row], arrows: &mut [u16]) -> Result<(usize, usize, &'a [u8]), Fault>
+    requires { ⌜ 3 + length (now bytes) < 2 ^ 64 ⌝ }
+    ensures { λ r. ⌜ elim r [ Ok p ↦ StatesDone states (now (bytes .entry)) (now (rows .entry)) (now (arrows .entry)) states (p .0) (p .1) (now (p .2)) (now (rows .exit)) (now (arrows .exit)) | Err f ↦ states-in states states (now (bytes .entry)) ≡ Err (told f) ] ⌝ }
+{
+    let mut total = 0;
+    let mut at = 3;
+    let mut left = bytes;
+    for state in 0..states {
+        let (row, body) = read_row(at, total, left)?;
+        let count = row.commands as usize * row.events as usize;
+        let (end, rest) = read_arrows(states, count, at + 4, body, total, arrows)?;
+        if state < rows.len() {
+            rows[state] = row;
+        }
+        total += count;
+        at = end;
+        left = rest;
+    }
+    Ok((total, at, left))
 }
