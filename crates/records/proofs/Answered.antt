@@ -12,6 +12,9 @@ use Rattle.site.specs.Refusals.{Refusal, unless, and-then}
 use Rattle.records.specs.Repeated.{repeated}
 
 module _ {T : Type 0} where
+  pub ok-same : {E : Type 0} {x y : T} → _≡_ {A = Result T E} (Ok x) (Ok y) → x ≡ y
+  ok-same e = cc
+
   pub unless-ok : (b : Bool) (n p : ℕ) (rest : Result T Refusal) (x : T) → unless b n p rest ≡ Ok x → (b ≡ false) × (rest ≡ Ok x)
   unless-ok true n p rest x e = let z : _≡_ {A = ℕ} 0 1 = cc in absurd (omega arith)
   unless-ok false n p rest x e = (refl, e)
@@ -44,3 +47,10 @@ module _ {T : Type 0} where
     -- the first step that is refused
     pub repeated-stops : (k m : ℕ) (x y : T) (r : Refusal) → repeated step k x ≡ Ok y → step y ≡ Err r → k < m → repeated step m x ≡ Err r
     repeated-stops k m x y r e bad lt = repeated-stays (k + 1) m x r (repeated-more k x y e ∙ bad) (omega arith)
+
+    -- what each step keeps
+    pub repeated-keeps : (P : ℕ → T → Type 0) → ((k : ℕ) (x y : T) → P k x → step x ≡ Ok y → P (suc k) y) → (k : ℕ) (x y : T) → P 0 x → repeated step k x ≡ Ok y → P k y
+    repeated-keeps P keeps zero x y h e = let same : x ≡ y = cc in rw (← same) h
+    repeated-keeps P keeps (suc k) x y h e =
+        let p = and-then-ok (repeated step k x) step y e in
+        keeps k (p .0) y (repeated-keeps P keeps k x (p .0) h (p .1)) (p .2)

@@ -1,3 +1,5 @@
 pub mod Answered
 pub mod Readers
 pub mod Scans
+pub mod Sound
+pub mod Tables

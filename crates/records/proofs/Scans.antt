@@ -77,7 +77,7 @@ row-of-ok at first g c e row h =
     let begins : first ≡ row .first = cc in
     let commands : c ≡ row .commands = cc in
     let events : e ≡ row .events = cc in
-    rw (← begins, ← commands, ← events) 
+    rw (← begins, ← commands, ← events)
     (and-from _ _ (eq-eqb first first refl) (and-from _ _ (le-leb 1 c (cs .0)) (and-from _ _ (le-leb c 16 (cs .1)) (and-from _ _ (le-leb 1 e (es .0)) (le-leb e 16 (es .1))))), fits)
 
 -- what a row that was read is

@@ -1,3 +1,4 @@
 pub mod Repeated
 pub mod Scanning
 pub mod TableBytes
+pub mod TableRead

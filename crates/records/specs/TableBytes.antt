@@ -112,3 +112,11 @@ one-state n rd =
 -- k of n states, from the bytes after the head
 abbrev pub states-in : ℕ → ℕ → List ℕ → Result Read Refusal
 states-in n k bs = repeated (one-state n) k (record { rows = []; arrows = []; at = 3; left = bs })
+
+-- no byte is left (else 8, at the first that is)
+abbrev pub ended : Read → Result Read Refusal
+ended rd = unless (ltb 0 (length (rd .left))) 8 (rd .at) (Ok rd)
+
+-- a whole table: the head, as many states as it says, and nothing after them
+abbrev pub table-in : List ℕ → Result Read Refusal
+table-in bs = and-then (head-in bs) (λ head. and-then (states-in (head .what) (head .what) (head .left)) ended)

@@ -9,11 +9,15 @@ use site::grades::Grade;
 use site::sheets::Row;
 
 const HEAD: u8 = 0x01;
+
 const ROW: u8 = 0x02;
+
 const ARROW: u8 = 0x03;
 
 const MOST_STATES: usize = 1024;
+
 const MOST_ARROWS: usize = 16384;
+
 const MOST_MOVES: u8 = 16;
 
 // A number in two bytes, the high byte first.
