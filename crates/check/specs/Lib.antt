@@ -1,0 +1,4 @@
+pub mod Bounded
+pub mod Checked
+pub mod Leaves
+pub mod Witness
