@@ -1,3 +1,5 @@
+pub mod Lines
+pub mod Puts
 pub mod Repeated
 pub mod Scanning
 pub mod TableBytes

@@ -1,4 +1,6 @@
 // Records: a table as bytes, and the lines of a listing.
+pub mod listing;
+mod puts;
 pub mod reading;
 mod record_bytes;
 mod scanning;
