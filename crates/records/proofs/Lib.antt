@@ -1,0 +1,6 @@
+pub mod Answered
+pub mod Putting
+pub mod Readers
+pub mod Scans
+pub mod Sound
+pub mod Tables

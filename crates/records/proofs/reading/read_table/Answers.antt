@@ -1,0 +1,8 @@
+use native.Mathlib.Omega.{arith}
+use Rattle.records.proofs.Tables.{second-scan}
+use Rattle.records.proofs.reading.read_table.Needs as need
+
+pub returns : need.returns
+returns c =
+    let l = second-scan (c .scan-2 .result) (c .scan-2 .last .rows) (c .scan-2 .last .arrows) (c .in-Continue-size .ensures tt) (omega arith) (omega arith) (c .scan-2 .ensures) in
+    record { answer = l .answer; row-sheet = l .row-sheet; arrow-sheet = l .arrow-sheet; fair-sheets = l .fair-sheets }

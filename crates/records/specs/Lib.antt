@@ -1,0 +1,6 @@
+pub mod Lines
+pub mod Puts
+pub mod Repeated
+pub mod Scanning
+pub mod TableBytes
+pub mod TableRead

@@ -1,0 +1,33 @@
+// Putting text and numbers into a buffer: each call answers the place after what it put.
+ghost use mathlib.Core.Path.{_≡_};
+ghost use mathlib.Core.List.{_++_};
+ghost use Prim.Native.Nat.{_≤_, _<_, _+_};
+ghost use lib.ListN.{length};
+ghost use Rattle.std.specs.Written.{decimal};
+ghost use Rattle.records.specs.Lines.{field};
+ghost use Rattle.records.specs.Puts.{Put};
+
+// The text, byte by byte.
+pub(crate) fn put_text(text: &[u8], at: usize, buffer: &mut [u8]) -> usize
+    requires { ⌜ at + length (now text) ≤ length (now buffer) ⌝ }
+    ensures { λ r. ⌜ Put at (now (text .entry)) (now (buffer .entry)) r (now (buffer .exit)) ⌝ }
+{
+    for (i, byte) in text.iter().enumerate() {
+        buffer[at + i] = *byte;
+    }
+    at + text.len()
+}
+
+// The number in decimal digits: first those before the last, and then the last.
+pub(crate) fn put_number(number: usize, at: usize, buffer: &mut [u8]) -> usize
+    requires { ⌜ at + length (decimal number) ≤ length (now buffer) ⌝ }
+    ensures { λ r. ⌜ Put at (decimal number) (now (buffer .entry)) r (now (buffer .exit)) ⌝ }
+{
+    if number < 10 {
+        buffer[at] = b'0' + number as u8;
+        return at + 1;
+    }
+    let last = put_number(number / 10, at, buffer);
+    buffer[last] = b'0' + (number % 10) as u8;
+    last + 1
+}
