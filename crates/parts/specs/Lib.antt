@@ -1,4 +1,5 @@
 pub mod Lifting
 pub mod Moves
+pub mod Regions
 pub mod Rows
 pub mod Written
