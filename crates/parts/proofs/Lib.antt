@@ -1,7 +1,10 @@
+pub mod Duals
 pub mod Forces
 pub mod Heights
 pub mod Ladders
+pub mod Levels
 pub mod Lowest
+pub mod Peeling
 pub mod Raises
 pub mod Regions
 pub mod Steps

@@ -130,11 +130,11 @@ pub record Growing (n : ℕ) (f : Region → Region) : Type 0 where
 
 module _ (n : ℕ) (f : Region → Region) (grow : Growing n f) where
   -- from nothing the steps rise, from all they fall
-  rising : (k : ℕ) → Within (iterate k f (nothing n)) (iterate (suc k) f (nothing n))
+  pub rising : (k : ℕ) → Within (iterate k f (nothing n)) (iterate (suc k) f (nothing n))
   rising zero = nothing-within n (f (nothing n))
   rising (suc k) = grow .mono (iterate k f (nothing n)) (iterate (suc k) f (nothing n)) (rising k)
 
-  falling : (k : ℕ) → Within (iterate (suc k) f (all n)) (iterate k f (all n))
+  pub falling : (k : ℕ) → Within (iterate (suc k) f (all n)) (iterate k f (all n))
   falling zero = within-all n (f (all n)) (grow .size (all n))
   falling (suc k) = grow .mono (iterate (suc k) f (all n)) (iterate k f (all n)) (falling k)
 
@@ -142,7 +142,7 @@ module _ (n : ℕ) (f : Region → Region) (grow : Growing n f) where
   rising-size zero = region-length n (λ _. false)
   rising-size (suc k) = grow .size (iterate k f (nothing n))
 
-  falling-size : (k : ℕ) → Sized n (iterate k f (all n))
+  pub falling-size : (k : ℕ) → Sized n (iterate k f (all n))
   falling-size zero = region-length n (λ _. true)
   falling-size (suc k) = grow .size (iterate k f (all n))
 

@@ -3,7 +3,7 @@ ghost use mathlib.Core.Path.{_≡_};
 ghost use Prim.Native.Nat.{_*_, _<_};
 ghost use lib.ListN.{length, drop};
 ghost use Rattle.site.specs.Refusals.{answered};
-ghost use Rattle.parts.specs.Rows.{numbered};
+ghost use Rattle.parts.specs.Rows.{work-answer};
 use crate::labels::stages;
 use crate::phases::phases;
 use site::faults::Fault;
@@ -24,7 +24,7 @@ fn fill_rows<S: Site>(site: &S, work: &mut [u16])
 // Works out the numbers of all states: the first N entries of `work` become the first numbers, the next N the ranks,
 // the next N the second numbers.
 pub fn number_states<S: Site>(site: &S, work: &mut [u16]) -> Result<usize, Fault>
-    ensures outcome { λ r. ⌜ answered r ≡ numbered (S·Site .arena (now (site .entry))) (length (now (work .entry))) ⌝ }
+    ensures outcome { λ r. ⌜ answered r ≡ work-answer (S·Site .arena (now (site .entry))) (length (now (work .entry))) ⌝ }
     ensures refused { λ _. ⌜ (length (now (work .entry)) < 4 * S·Site .arena (now (site .entry)) .states → now (work .exit) ≡ now (work .entry)) ⌝ }
     ensures beyond { λ _. ⌜ drop (4 * S·Site .arena (now (site .entry)) .states) (now (work .exit)) ≡ drop (4 * S·Site .arena (now (site .entry)) .states) (now (work .entry)) ⌝ }
 {
