@@ -149,7 +149,7 @@ pub(crate) fn stages<S: Site>(
     labels: &mut [u16],
     seconds: &mut [u16],
 )
-    requires few { ⌜ count ≤ 8193 ⌝ }
+    requires few { ⌜ count ≤ S·Site .arena (now site) .states ⌝ }
     requires firsts { ⌜ length (now firsts) ≡ S·Site .arena (now site) .states ⌝ }
     requires labels { ⌜ length (now labels) ≡ S·Site .arena (now site) .states ⌝ }
     requires seconds { ⌜ length (now seconds) ≡ S·Site .arena (now site) .states ⌝ }
