@@ -13,7 +13,7 @@ use Rattle.site.specs.Counting.{some}
 use Rattle.parts.specs.Moves.{holds, blocks, by-grade}
 use Rattle.parts.specs.Lifting.{at, none, unnumbered, best, value, Calm, Raised}
 use Rattle.parts.specs.Regions.{Region, has, region, all, nothing, F, G, iterate, greatest, least, level, covered, stage, lowest, rank, first}
-use Rattle.parts.specs.Rows.{Parted}
+use Rattle.parts.specs.Rows.{FirstRow, RankRow}
 use Rattle.parts.specs.Written.{lost}
 use Rattle.parts.proofs.Duals.{remain, holds-agree, stage-not, remain-not, stage-is, covered-remain}
 use Rattle.parts.proofs.Forces.{some-one, covers-grow, stages-grow, rounds-grow, G-grows, G-mono, blocks-mono, levels-grow}
@@ -265,20 +265,22 @@ module _ (m : Arena) (lawful : Lawful m) where
           in-stage : (s : ℕ) → s < m .states → has (covered m) s ≡ false → has (stage m i) s ≡ true
           in-stage s lt f = not-false (has (stage m i) s) (sym (covered-stage s lt) ∙ f)
 
-          pub peeled-all : Parted m i after ranks
+          pub peeled-all : FirstRow m i after × RankRow m ranks
           unfolding rank
           peeled-all =
-              record {
+              (record {
                   few = i≤;
                   no-first = λ s lt t. not-lost s (all-kept s lt) ∙ peeled .fresh s lt (not-true (has (stage m i) s) (sym (covered-stage s lt) ∙ t));
-                  ranked = λ s lt t. end-rank s lt ∙ limit-height m lawful (covered m) s (ap (λ U. has U s) (covered-fixed m) ∙ t) .0;
                   numbered = λ s lt f. not-lost s (all-kept s lt) ∙ peeled .numbered s (in-stage s lt f);
-                  below = λ s lt f. peeled .small s (in-stage s lt f);
+                  below = λ s lt f. peeled .small s (in-stage s lt f)
+              },
+              record {
+                  ranked = λ s lt t. end-rank s lt ∙ limit-height m lawful (covered m) s (ap (λ U. has U s) (covered-fixed m) ∙ t) .0;
                   unranked = λ s lt f. end-rank s lt ∙ elim (cases-lt (height m (covered m) s) (top-of m)) [
                       inl less ↦ absurd (both-ways (has (covered m) s) f (ap (λ U. has U s) (sym (covered-fixed m)) ∙ height-limit m lawful (covered m) s less))
                       | inr ge ↦ omega (arith, ge, height-le m (covered m) s)
                   ]
-              }
+              })
 
 -- one whole phase: lifted, and marked
 module _ (m : Arena) (lawful : Lawful m) (i top n : ℕ) (top-is : top ≡ top-of m) (n-is : n ≡ m .states) (i≤ : i ≤ m .states) (firsts before ranks after : List ℕ) (peeled : Peeled m i firsts) (under : Under m i before) (raised : Raised m top (unnumbered firsts) before ranks) (calm : Calm m top (unnumbered firsts) (at ranks)) (marked : (s : ℕ) → at after s ≡ cond (lost top ranks firsts s) i (at firsts s)) (any : Bool) (any-is : any ≡ some (lost top ranks firsts) n) where
@@ -297,5 +299,5 @@ module _ (m : Arena) (lawful : Lawful m) (i top n : ℕ) (top-is : top ≡ top-o
   pub phase-more : any ≡ true → Peeled m (i + 1) after × Under m (i + 1) ranks × (i + 1 ≤ m .states)
   phase-more h = peeled-more m lawful i i≤ firsts peeled ranks lifted after marks (found ∙ h)
 
-  pub phase-last : any ≡ false → Parted m i after ranks
+  pub phase-last : any ≡ false → FirstRow m i after × RankRow m ranks
   phase-last h = peeled-all m lawful i i≤ firsts peeled ranks lifted after marks (found ∙ h)

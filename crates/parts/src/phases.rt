@@ -7,7 +7,7 @@ ghost use lib.ListN.{length};
 ghost use Rattle.site.specs.Arena.{graded};
 ghost use Rattle.site.specs.Counting.{some};
 ghost use Rattle.parts.specs.Lifting.{at};
-ghost use Rattle.parts.specs.Rows.{Parted};
+ghost use Rattle.parts.specs.Rows.{FirstRow, RankRow};
 ghost use Rattle.parts.specs.Written.{lost};
 use crate::lifting::NONE;
 use crate::lifting::settle;
@@ -67,7 +67,8 @@ fn mark(top: u16, i: u16, ranks: &[u16], firsts: &mut [u16]) -> bool
 pub(crate) fn phases<S: Site>(site: &S, firsts: &mut [u16], ranks: &mut [u16]) -> usize
     requires firsts { ⌜ length (now firsts) ≡ S·Site .arena (now site) .states ⌝ }
     requires ranks { ⌜ length (now ranks) ≡ S·Site .arena (now site) .states ⌝ }
-    ensures { λ r. ⌜ Parted (S·Site .arena (now (site .entry))) r (now (firsts .exit)) (now (ranks .exit)) ⌝ }
+    ensures firsts { λ r. ⌜ FirstRow (S·Site .arena (now (site .entry))) r (now (firsts .exit)) ⌝ }
+    ensures ranks { λ _. ⌜ RankRow (S·Site .arena (now (site .entry))) (now (ranks .exit)) ⌝ }
 {
     firsts.fill(NONE);
     ranks.fill(0);

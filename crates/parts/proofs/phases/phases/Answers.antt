@@ -34,7 +34,8 @@ pub returns-then-not-mark : need.returns-then-not-mark
 returns-then-not-mark g c =
     let m = g .S·Site .arena (c .args .site .now) in
     let top-is : c .doubted .result + 1 ≡ top-of m = add-one (c .doubted .result) ∙ ap suc (c .doubted .ensures) in
-    phase-last m (g .S·Site .lawful (c .args .site .now)) (c .loop-i .i) (c .doubted .result + 1) (length (c .loop-i .firsts)) top-is (omega arith) (c .loop-i .inv .3) (c .loop-i .firsts) (c .loop-i .ranks) (c .settle .last .ranks) (c .mark .last .firsts) (c .loop-i .inv .1) (c .loop-i .inv .2) (c .settle .ensures .raised) (c .settle .ensures .calm) (c .mark .ensures .marked) (c .mark .result) (c .mark .ensures .any) (c .if-not-mark .taken)
+    let last = phase-last m (g .S·Site .lawful (c .args .site .now)) (c .loop-i .i) (c .doubted .result + 1) (length (c .loop-i .firsts)) top-is (omega arith) (c .loop-i .inv .3) (c .loop-i .firsts) (c .loop-i .ranks) (c .settle .last .ranks) (c .mark .last .firsts) (c .loop-i .inv .1) (c .loop-i .inv .2) (c .settle .ensures .raised) (c .settle .ensures .calm) (c .mark .ensures .marked) (c .mark .result) (c .mark .ensures .any) (c .if-not-mark .taken) in
+    record { firsts = last .0; ranks = last .1 }
 
 pub loop-i-again : need.loop-i-again
 loop-i-again g c =
