@@ -3,18 +3,16 @@ use Prim.Native.Nat.{ℕ, _+_, _-_, _*_, _<_, _≤_}
 use native.Mathlib.Nat.{zero-add, add-zero}
 use native.Mathlib.Omega.{arith}
 use mathlib.Core.Path.{_≡_, refl, sym, _∙_, ap}
-use mathlib.Core.Bool.{cond}
-use mathlib.Core.List.{List, [], _∷_, _++_}
+use mathlib.Core.List.{List, [], _++_}
 use lib.Chars.{codes}
-use lib.Dec.{ltb, leb}
 use lib.ListN.{length, take, drop, getD}
 use Rattle.std.specs.declared.result.Result.{Result}
-use Rattle.std.specs.declared.result.Result.the-variants.{Ok, Err}
+use Rattle.std.specs.declared.result.Result.the-variants.{Ok}
 use Rattle.std.proofs.shelf.Lists.{take-more, take-all, length-take, joined-more}
 use Rattle.std.proofs.shelf.Tests.{le-ltb, lt-leb, cond-false}
 use Rattle.std.specs.Written.{decimal}
 use Rattle.site.specs.Arena.{Arena}
-use Rattle.site.specs.Refusals.{Refusal, answered}
+use Rattle.site.specs.Refusals.{Refusal}
 use Rattle.site.proofs.Laid.{laid-none}
 use Rattle.check.specs.Leaves.{leaf-at}
 use Rattle.check.specs.declared.leaves.Leaf.{Leaf}

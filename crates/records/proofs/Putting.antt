@@ -1,5 +1,5 @@
 -- Pieces of text in a buffer, one after the other.
-use Prim.Native.Nat.{ℕ, zero, suc, _+_, _*_, _/_, _%_, _^_, _<_, _≤_}
+use Prim.Native.Nat.{ℕ, _+_, _/_, _%_, _^_, _<_, _≤_}
 use native.Mathlib.Nat.{add-assoc}
 use native.Mathlib.Omega.{arith}
 use mathlib.Core.Path.{_≡_, refl, sym, _∙_, ap}
@@ -9,7 +9,7 @@ use Rattle.std.specs.Written.{decimal}
 use Rattle.std.proofs.shelf.Decimals.{decimal-digit, decimal-step, length-decimal-le}
 use Rattle.std.proofs.shelf.Lists.{take-more, take-all, length-append, length-push, length-take-le}
 use Rattle.site.specs.Laid.{laid}
-use Rattle.site.proofs.Laid.{laid-none, laid-one, laid-push, laid-append, length-laid}
+use Rattle.site.proofs.Laid.{laid-one, laid-push, laid-append, length-laid}
 use Rattle.records.specs.Puts.{Put, Short}
 
 -- a byte more of a text

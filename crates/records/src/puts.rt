@@ -1,6 +1,4 @@
 // Putting text and numbers into a buffer: each call answers the place after what it put.
-ghost use mathlib.Core.Path.{_≡_};
-ghost use mathlib.Core.List.{_++_};
 ghost use Prim.Native.Nat.{_≤_, _<_, _+_};
 ghost use lib.ListN.{length};
 ghost use Rattle.std.specs.Written.{decimal};

@@ -2,7 +2,7 @@ use Prim.Native.Nat.{_+_, _*_, _≤_}
 use lib.ListN.{take}
 use Rattle.records.specs.Lines.{replies-text}
 use Rattle.records.specs.Puts.{Put}
-use Rattle.records.proofs.listing.put_replies.Given as given
+use Rattle.records.proofs.leaf_line.put_replies.Given as given
 
 abbrev pub Inv-loop-reply : given.InvT-loop-reply
 Inv-loop-reply l =

@@ -1,7 +1,7 @@
 use borrow.Author.Needs.{needs}
 use native.Mathlib.Omega.{arith}
 use Rattle.records.proofs.Listed.{put-none, reply-put, replies-put}
-use Rattle.records.proofs.listing.put_replies.Needs as need
+use Rattle.records.proofs.leaf_line.put_replies.Needs as need
 
 pub loop-reply-holds : need.loop-reply-holds
 loop-reply-holds c = (put-none _ _, omega arith)

@@ -1,6 +1,6 @@
 use borrow.Author.Needs.{needs}
 use Rattle.records.proofs.Putting.{put-then}
-use Rattle.records.proofs.listing.put_open.Needs as need
+use Rattle.records.proofs.leaf_line.put_open.Needs as need
 
 pub returns : need.returns
 returns c =
