@@ -1,4 +1,5 @@
 pub mod Answered
+pub mod Listed
 pub mod Putting
 pub mod Readers
 pub mod Scans

@@ -1,5 +1,5 @@
 -- Pieces of text in a buffer, one after the other.
-use Prim.Native.Nat.{ℕ, zero, suc, _+_, _*_, _/_, _%_, _^_, _<_, _≤_}
+use Prim.Native.Nat.{ℕ, _+_, _/_, _%_, _^_, _<_, _≤_}
 use native.Mathlib.Nat.{add-assoc}
 use native.Mathlib.Omega.{arith}
 use mathlib.Core.Path.{_≡_, refl, sym, _∙_, ap}
@@ -9,8 +9,8 @@ use Rattle.std.specs.Written.{decimal}
 use Rattle.std.proofs.shelf.Decimals.{decimal-digit, decimal-step, length-decimal-le}
 use Rattle.std.proofs.shelf.Lists.{take-more, take-all, length-append, length-push, length-take-le}
 use Rattle.site.specs.Laid.{laid}
-use Rattle.site.proofs.Laid.{laid-none, laid-one, laid-push, laid-append, length-laid}
-use Rattle.records.specs.Puts.{Put}
+use Rattle.site.proofs.Laid.{laid-one, laid-push, laid-append, length-laid}
+use Rattle.records.specs.Puts.{Put, Short}
 
 -- a byte more of a text
 pub text-more : (at i : ℕ) (text before now : List ℕ) → i < length text → now ≡ laid at (take i text) before → set now (at + i) (getD text i 0) ≡ laid at (take (i + 1) text) before
@@ -49,3 +49,19 @@ digits-put n at last before now le fits p = rw (decimal-step n le fits) (put-the
 -- the digits before the last are one less
 pub digits-fewer : (n : ℕ) → 10 ≤ n → n < 2 ^ 64 → length (decimal n) ≡ length (decimal (n / 10)) + 1
 digits-fewer n le fits = ap length (decimal-step n le fits) ∙ length-push (decimal (n / 10)) (48 + n % 10)
+
+-- no number has more than 20 digits
+pub few-digits : (n : ℕ) → n < 2 ^ 64 → length (decimal n) ≤ 20
+few-digits n fits = length-decimal-le 20 n (omega arith) (omega arith) fits
+
+-- how far a field reaches
+pub field-short : (at long n end : ℕ) → n < 2 ^ 64 → end ≡ at + long + length (decimal n) → Short at long n end
+field-short at long n end fits e = (
+  omega (arith, few-digits n fits),
+  λ lt. omega (arith, length-decimal-le 3 n (omega arith) lt fits),
+  λ lt. omega (arith, length-decimal-le 5 n (omega arith) lt fits),
+)
+
+-- how far a number reaches
+pub number-short : {at end : ℕ} {before after : List ℕ} (n : ℕ) → n < 2 ^ 64 → Put at (decimal n) before end after → Short at 0 n end
+number-short {at} {end} n fits p = field-short at 0 n end fits (omega (arith, p .ends))

@@ -1,18 +1,17 @@
 -- What the readers of records find where a slice pattern fits.
-use Prim.Native.Nat.{ℕ, _+_, _-_, _*_, _<_, _≤_}
+use Prim.Native.Nat.{ℕ, _-_, _<_, _≤_}
 use native.Mathlib.Omega.{arith}
-use mathlib.Core.Path.{_≡_, refl, sym, _∙_, ap}
-use mathlib.Core.Bool.{Bool, true, false, cond, not, _||_}
+use mathlib.Core.Path.{_≡_, refl, ap}
+use mathlib.Core.Bool.{false, _||_}
 use mathlib.Core.List.{List, [], _∷_}
-use lib.Dec.{eqb, leb, ltb}
+use lib.Dec.{eqb, ltb}
 use lib.ListN.{length, getD, take, drop}
-use Rattle.std.specs.declared.result.Result.{Result}
-use Rattle.std.specs.declared.result.Result.the-variants.{Ok, Err}
+use Rattle.std.specs.declared.result.Result.the-variants.{Ok}
 use Rattle.std.proofs.shelf.Lists.{take-rest}
-use Rattle.std.proofs.shelf.Tests.{lt-leb, cond-false}
-use Rattle.site.specs.Refusals.{Refusal, refuse, unless, and-then}
+use Rattle.std.proofs.shelf.Tests.{lt-leb}
+use Rattle.site.specs.Refusals.{and-then}
 use Rattle.site.specs.declared.sheets.Row.{Row}
-use Rattle.records.specs.TableBytes.{Found, two-bytes, of-kind, head-body, head-in, row-of, row-body, row-in, arrow-body, arrow-in}
+use Rattle.records.specs.TableBytes.{two-bytes, head-in, row-of, row-in, arrow-in}
 
 -- an arrow in range
 pub arrow-read : (n at v : ℕ) (bs : List ℕ) → 3 ≤ length bs → getD bs 0 0 ≡ 3 → v ≡ two-bytes (getD bs 1 0) (getD bs 2 0) → v < n → arrow-in n at bs ≡ Ok (record { what = v; left = take (length bs - 3) (drop 3 bs) })

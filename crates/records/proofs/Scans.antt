@@ -1,10 +1,9 @@
 -- The steps of the scan: one arrow more, one state more.
-use Prim.Native.Nat.{ℕ, zero, suc, _+_, _*_, _<_, _≤_}
+use Prim.Native.Nat.{ℕ, _+_, _*_, _<_, _≤_}
 use native.Mathlib.Nat.{zero-add}
-use native.Mathlib.Numerals.{add-one}
 use native.Mathlib.Omega.{arith}
 use mathlib.Core.Path.{_≡_, refl, sym, _∙_, ap}
-use mathlib.Core.Bool.{Bool, true, false, cond, not, _||_}
+use mathlib.Core.Bool.{true, false, not, _||_}
 use mathlib.Core.List.{List, [], _∷_, _++_}
 use lib.Dec.{eqb, leb, ltb}
 use lib.ListN.{length, set}
@@ -13,10 +12,10 @@ use Rattle.std.specs.declared.result.Result.the-variants.{Ok, Err}
 use Rattle.std.proofs.shelf.Lists.{length-push, length-append}
 use Rattle.std.proofs.shelf.Tests.{ltb-false, eqb-false, or-parts, and-from, eq-eqb, le-leb}
 use Rattle.site.proofs.Laid.{laid-push, laid-none, laid-append}
-use Rattle.site.specs.Refusals.{Refusal, unless, and-then}
+use Rattle.site.specs.Refusals.{Refusal}
 use Rattle.site.specs.Tables.{row-ok}
 use Rattle.site.specs.declared.sheets.Row.{Row}
-use Rattle.records.specs.TableBytes.{Found, two-bytes, of-kind, arrow-body, arrow-in, one-arrow, Arrows, arrows-in, bad-count, row-of, row-body, row-in, one-state, states-in}
+use Rattle.records.specs.TableBytes.{Found, two-bytes, of-kind, arrow-body, arrow-in, one-arrow, arrows-in, bad-count, row-of, row-body, row-in, one-state, states-in}
 use Rattle.records.specs.Scanning.{ArrowsDone, StatesDone}
 use Rattle.records.proofs.Answered.{unless-ok, and-then-ok, after-ok, after-err, repeated-more, repeated-stops}
 

@@ -3,19 +3,17 @@ use Prim.Native.Nat.{ℕ, zero, suc, _+_, _*_, _<_, _≤_}
 use native.Mathlib.Nat.{zero-add}
 use native.Mathlib.Omega.{arith}
 use mathlib.Core.Path.{_≡_, refl, sym, _∙_, ap, subst}
-use mathlib.Core.Bool.{Bool, true, false, cond, not, _||_, _&&_}
+use mathlib.Core.Bool.{Bool, true, _||_}
 use mathlib.Core.List.{List, [], _∷_, _++_}
 use lib.Dec.{eqb, leb, ltb}
 use lib.ListN.{length, getD}
-use Rattle.std.specs.declared.result.Result.{Result}
-use Rattle.std.specs.declared.result.Result.the-variants.{Ok, Err}
+use Rattle.std.specs.declared.result.Result.the-variants.{Ok}
 use Rattle.std.specs.shelf.Lists.{All}
 use Rattle.std.proofs.shelf.Elements.{all-push, all-append, all-getD}
 use Rattle.std.proofs.shelf.Lists.{length-push, length-append, getD-push, getD-append-left}
 use Rattle.std.proofs.shelf.Tests.{ltb-false, leb-false, eqb-false, or-parts, and-from, le-leb, lt-ltb}
 use Rattle.site.specs.Counting.{every}
 use Rattle.site.specs.Laid.{laid}
-use Rattle.site.specs.Refusals.{Refusal, unless, and-then}
 use Rattle.site.specs.Tables.{no-row, row-at, row-ok, row-fair, arrow-fair, arrows-before, fair}
 use Rattle.site.specs.declared.sheets.Row.{Row}
 use Rattle.site.proofs.Laid.{laid-within, length-laid}

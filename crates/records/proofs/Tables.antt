@@ -1,19 +1,19 @@
 -- The whole scan, and the two scans of reading.
-use Prim.Native.Nat.{ℕ, zero, suc, _+_, _*_, _<_, _≤_}
+use Prim.Native.Nat.{ℕ, _≤_}
 use native.Mathlib.Omega.{arith}
-use mathlib.Core.Path.{_≡_, refl, sym, _∙_, ap}
-use mathlib.Core.Bool.{Bool, true, false, cond}
-use mathlib.Core.List.{List, [], _∷_, _++_}
+use mathlib.Core.Path.{_≡_, refl, _∙_, ap}
+use mathlib.Core.Bool.{true}
+use mathlib.Core.List.{List}
 use lib.Dec.{ltb}
 use lib.ListN.{length}
 use Rattle.std.specs.declared.result.Result.{Result}
 use Rattle.std.specs.declared.result.Result.the-variants.{Ok, Err}
 use Rattle.std.proofs.shelf.Tests.{le-ltb, cond-false}
-use Rattle.site.specs.Refusals.{Refusal, answered, unless, and-then}
+use Rattle.site.specs.Refusals.{answered}
 use Rattle.site.specs.declared.faults.Fault.{Fault}
 use Rattle.site.specs.declared.sheets.Row.{Row}
-use Rattle.records.specs.TableBytes.{Found, Read, head-in, states-in, ended, table-in}
-use Rattle.records.specs.TableRead.{table-read, fitted, sized, size-of, rows-after, arrows-after}
+use Rattle.records.specs.TableBytes.{Read, head-in, states-in, ended, table-in}
+use Rattle.records.specs.TableRead.{table-read, fitted, sized, rows-after, arrows-after}
 use Rattle.records.specs.Scanning.{StatesDone, TableDone, Scanned}
 use Rattle.records.specs.declared.table_size.TableSize.{TableSize}
 use Rattle.records.proofs.Answered.{after-ok}

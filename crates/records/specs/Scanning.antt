@@ -9,7 +9,7 @@ use Rattle.site.specs.Laid.{laid}
 use Rattle.site.specs.Refusals.{told}
 use Rattle.site.specs.declared.faults.Fault.{Fault}
 use Rattle.site.specs.declared.sheets.Row.{Row}
-use Rattle.records.specs.TableBytes.{Arrows, arrows-in, Read, states-in, table-in}
+use Rattle.records.specs.TableBytes.{arrows-in, Read, states-in, table-in}
 use Rattle.records.specs.TableRead.{size-of}
 use Rattle.records.specs.declared.table_size.TableSize.{TableSize}
 

@@ -1,11 +1,11 @@
 -- How a table is read from bytes: a head, then for each state a row and the arrows of that row.
-use Prim.Native.Nat.{ℕ, zero, suc, _+_, _*_}
+use Prim.Native.Nat.{ℕ, _+_, _*_}
 use mathlib.Core.Bool.{Bool, cond, not, _||_}
 use mathlib.Core.List.{List, [], _∷_, _++_}
 use lib.Dec.{eqb, leb, ltb}
 use lib.ListN.{length}
 use Rattle.std.specs.declared.result.Result.{Result}
-use Rattle.std.specs.declared.result.Result.the-variants.{Ok, Err}
+use Rattle.std.specs.declared.result.Result.the-variants.{Ok}
 use Rattle.site.specs.Refusals.{Refusal, refuse, unless, and-then}
 use Rattle.site.specs.declared.grades.Grade.{Grade}
 use Rattle.site.specs.declared.grades.Grade.the-variants.{Confirmed, Doubted, Ordinary}

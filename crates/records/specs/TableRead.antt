@@ -1,6 +1,5 @@
 -- What reading a table from bytes onto two sheets answers, and what it leaves on them.
 use Prim.Native.Nat.{ℕ}
-use mathlib.Core.Path.{_≡_}
 use mathlib.Core.List.{List}
 use lib.Dec.{ltb}
 use lib.ListN.{length}

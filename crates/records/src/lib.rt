@@ -1,4 +1,5 @@
 // Records: a table as bytes, and the lines of a listing.
+mod leaf_line;
 pub mod listing;
 mod puts;
 pub mod reading;

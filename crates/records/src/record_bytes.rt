@@ -1,6 +1,6 @@
 // The three kinds of record of a table: each reader takes one off the front and hands on what is left.
 ghost use mathlib.Core.Path.{_≡_};
-ghost use Prim.Native.Nat.{_≤_, _<_, _+_, _*_};
+ghost use Prim.Native.Nat.{_≤_, _+_, _*_};
 ghost use Rattle.std.specs.declared.result.Result.the-variants.{Ok, Err};
 ghost use Rattle.site.specs.Refusals.{told, answered};
 ghost use Rattle.records.specs.TableBytes.{two-bytes, head-in, numbered-grade, bad-count, row-of, row-in, arrow-in};

@@ -1,6 +1,6 @@
 // The scan of a table's bytes: it lays what it reads over the sheets as far as there is room.
 ghost use mathlib.Core.Path.{_≡_};
-ghost use Prim.Native.Nat.{_≤_, _<_, _+_, _*_, _^_};
+ghost use Prim.Native.Nat.{_<_, _+_, _*_, _^_};
 ghost use lib.ListN.{length};
 ghost use Rattle.std.specs.declared.result.Result.the-variants.{Ok, Err};
 ghost use Rattle.site.specs.Refusals.{told};

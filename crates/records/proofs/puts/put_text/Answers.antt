@@ -1,5 +1,5 @@
 use native.Mathlib.Omega.{arith}
-use mathlib.Core.Path.{_≡_, sym}
+use mathlib.Core.Path.{sym}
 use Rattle.site.proofs.Laid.{laid-none}
 use Rattle.records.proofs.Putting.{text-more, text-put}
 use Rattle.records.proofs.puts.put_text.Needs as need

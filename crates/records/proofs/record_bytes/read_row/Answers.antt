@@ -1,6 +1,5 @@
 use borrow.Author.Needs.{needs}
-use native.Mathlib.Omega.{arith}
-use mathlib.Core.Path.{_≡_, sym}
+use mathlib.Core.Path.{sym}
 use Rattle.records.proofs.Readers.{row-read}
 use Rattle.records.proofs.record_bytes.read_row.Needs as need
 

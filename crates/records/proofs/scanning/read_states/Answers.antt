@@ -1,10 +1,9 @@
 use native.Mathlib.Omega.{arith}
-use mathlib.Core.Path.{_≡_, sym}
-use lib.ListN.{length, set}
-use Prim.Native.Nat.{_+_, _≤_}
+use lib.ListN.{length}
+use Prim.Native.Nat.{_≤_}
 use Rattle.std.proofs.shelf.Lists.{set-past}
 use Rattle.std.proofs.shelf.Results.{err-from-errBy}
-use Rattle.records.proofs.Scans.{no-states-done, state-done, row-failed, row-arrows-failed, row-read-is}
+use Rattle.records.proofs.Scans.{no-states-done, state-done, row-failed, row-arrows-failed}
 use Rattle.records.proofs.scanning.read_states.Needs as need
 use Rattle.records.proofs.scanning.read_states.Needs.{then-state-rows, else-state-rows}
 
