@@ -7,5 +7,7 @@ pub mod Lowest
 pub mod Peeling
 pub mod Raises
 pub mod Regions
+pub mod Seconds
 pub mod Steps
+pub mod Turns
 pub mod Writes

@@ -3,10 +3,12 @@ ghost use mathlib.Core.Path.{_≡_};
 ghost use mathlib.Core.Bool.{true, false, cond};
 ghost use Prim.Native.Nat.{ℕ, _<_, _≤_};
 ghost use lib.Dec.{eqb, ltb};
-ghost use lib.ListN.{length};
+ghost use lib.ListN.{length, replicate};
 ghost use Rattle.site.specs.Counting.{some};
 ghost use Rattle.parts.specs.Lifting.{at};
 ghost use Rattle.parts.specs.Moves.{blocks};
+ghost use Rattle.parts.specs.Regions.{second};
+ghost use Rattle.parts.specs.Rows.{FirstRow, SecondRow};
 ghost use Rattle.parts.specs.Written.{ready, waiting, due};
 use crate::lifting::NONE;
 use crate::lifting::number_after;
@@ -125,34 +127,44 @@ fn keep(i: u16, firsts: &[u16], labels: &[u16], seconds: &mut [u16])
     }
 }
 
-// The second numbers of the states with first number `i`.
-fn stage<S: Site>(site: &S, i: u16, firsts: &[u16], labels: &mut [u16], seconds: &mut [u16])
+// Labels stage `i`, round by round, until every state with first number `i` has its label.
+fn label_stage<S: Site>(site: &S, i: u16, firsts: &[u16], labels: &mut [u16])
+    requires row { ⌜ FirstRow (S·Site .arena (now site)) (S·Site .arena (now site) .states) (now firsts) ⌝ }
+    requires stage { ⌜ i < S·Site .arena (now site) .states ⌝ }
     requires firsts { ⌜ length (now firsts) ≡ S·Site .arena (now site) .states ⌝ }
     requires labels { ⌜ length (now labels) ≡ S·Site .arena (now site) .states ⌝ }
-    requires seconds { ⌜ length (now seconds) ≡ S·Site .arena (now site) .states ⌝ }
+    ensures { λ _. ⌜ ((s : ℕ) → s < S·Site .arena (now (site .entry)) .states → at (now (firsts .entry)) s ≡ i → at (now (labels .exit)) s ≡ second (S·Site .arena (now (site .entry))) s) ⌝ }
 {
     begin(site, i, firsts, labels);
     for j in 1..site.states() + 1 {
         if !waits(i, firsts, labels) {
-            break;
+            return;
         }
         round(site, i, j as u16, firsts, labels);
     }
-    keep(i, firsts, labels, seconds);
 }
 
-// The second numbers of all open states, stage by stage; `count` stages have states.
-pub(crate) fn stages<S: Site>(
-    site: &S,
-    count: usize,
-    firsts: &[u16],
-    labels: &mut [u16],
-    seconds: &mut [u16],
-)
-    requires few { ⌜ count ≤ S·Site .arena (now site) .states ⌝ }
+// The second numbers of the states with first number `i`.
+fn stage<S: Site>(site: &S, i: u16, firsts: &[u16], labels: &mut [u16], seconds: &mut [u16])
+    requires row { ⌜ FirstRow (S·Site .arena (now site)) (S·Site .arena (now site) .states) (now firsts) ⌝ }
+    requires stage { ⌜ i < S·Site .arena (now site) .states ⌝ }
     requires firsts { ⌜ length (now firsts) ≡ S·Site .arena (now site) .states ⌝ }
     requires labels { ⌜ length (now labels) ≡ S·Site .arena (now site) .states ⌝ }
     requires seconds { ⌜ length (now seconds) ≡ S·Site .arena (now site) .states ⌝ }
+    ensures { λ _. ⌜ ((s : ℕ) → s < S·Site .arena (now (site .entry)) .states → at (now (seconds .exit)) s ≡ cond (eqb (at (now (firsts .entry)) s) i) (second (S·Site .arena (now (site .entry))) s) (at (now (seconds .entry)) s)) ⌝ }
+{
+    label_stage(site, i, firsts, labels);
+    keep(i, firsts, labels, seconds);
+}
+
+// The second numbers of all open states, stage by stage; `count` stages have states. The labels are cleared in the end.
+pub(crate) fn stages<S: Site>(site: &S, count: usize, firsts: &[u16], labels: &mut [u16], seconds: &mut [u16])
+    requires row { ⌜ FirstRow (S·Site .arena (now site)) count (now firsts) ⌝ }
+    requires firsts { ⌜ length (now firsts) ≡ S·Site .arena (now site) .states ⌝ }
+    requires labels { ⌜ length (now labels) ≡ S·Site .arena (now site) .states ⌝ }
+    requires seconds { ⌜ length (now seconds) ≡ S·Site .arena (now site) .states ⌝ }
+    ensures seconds { λ _. ⌜ SecondRow (S·Site .arena (now (site .entry))) (now (seconds .exit)) ⌝ }
+    ensures labels { λ _. ⌜ now (labels .exit) ≡ replicate (S·Site .arena (now (site .entry)) .states) 0 ⌝ }
 {
     seconds.fill(0);
     for i in 0..count {
