@@ -9,5 +9,6 @@ pub mod Raises
 pub mod Regions
 pub mod Seconds
 pub mod Steps
+pub mod Tables
 pub mod Turns
 pub mod Writes

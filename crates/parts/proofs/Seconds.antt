@@ -24,11 +24,11 @@ module _ (m : Arena) (lawful : Lawful m) (many : ℕ) (firsts : List ℕ) (row :
   pub staged-more : (i : ℕ) (seconds after : List ℕ) → i < many → Staged m i seconds → ((s : ℕ) → s < m .states → at after s ≡ cond (eqb (at firsts s) i) (second m s) (at seconds s)) → Staged m (i + 1) after
   staged-more i seconds after i< so-far h =
       record {
-          kept = λ s lt t. h s lt ∙ (cond-false (eqb (at firsts s) i) (second m s) (at seconds s) (ne-eqb (at firsts s) i (λ e. omega (arith, e, row .no-first s lt t, i<, row .few, lawful .limited))) ∙ so-far .kept s lt t);
-          numbered = λ s lt f less. elim (cases-eq (first m s) i) [
-              inl e ↦ h s lt ∙ cond-true (eqb (at firsts s) i) (second m s) (at seconds s) (eq-eqb (at firsts s) i (row .numbered s lt f ∙ e))
-              | inr ne ↦ h s lt ∙ (cond-false (eqb (at firsts s) i) (second m s) (at seconds s) (ne-eqb (at firsts s) i (λ e. ne (sym (row .numbered s lt f) ∙ e))) ∙ so-far .numbered s lt f (omega (arith, ne, less)))
-          ]
+        kept = λ s lt t. h s lt ∙ (cond-false (eqb (at firsts s) i) (second m s) (at seconds s) (ne-eqb (at firsts s) i (λ e. omega (arith, e, row .no-first s lt t, i<, row .few, lawful .limited))) ∙ so-far .kept s lt t);
+        numbered = λ s lt f less. elim (cases-eq (first m s) i) [
+          | inl e ↦ h s lt ∙ cond-true (eqb (at firsts s) i) (second m s) (at seconds s) (eq-eqb (at firsts s) i (row .numbered s lt f ∙ e))
+          | inr ne ↦ h s lt ∙ (cond-false (eqb (at firsts s) i) (second m s) (at seconds s) (ne-eqb (at firsts s) i (λ e. ne (sym (row .numbered s lt f) ∙ e))) ∙ so-far .numbered s lt f (omega (arith, ne, less)))
+        ];
       }
 
   pub staged-all : (seconds : List ℕ) → Staged m many seconds → SecondRow m seconds

@@ -91,10 +91,10 @@ module _ (m : Arena) (lawful : Lawful m) (i : ℕ) where
   unfolding turn least
   added-turn j s j≤ added =
       let less : j < m .states = elim (cases-eq j (m .states)) [
-          inl e ↦
-              let still : round m i (suc (m .states)) ≡ round m i (m .states) = least-fixed (m .states) _ round-grows in
-              absurd (both-ways (has (round m i j) s) (added .1) (ap (λ k. has (round m i k) s) e ∙ (ap (λ U. has U s) (sym still) ∙ (ap (λ k. has (round m i (suc k)) s) (sym e) ∙ added .0))))
-          | inr ne ↦ omega (arith, ne, j≤)
+        | inl e ↦
+            let still : round m i (suc (m .states)) ≡ round m i (m .states) = least-fixed (m .states) _ round-grows in
+            absurd (both-ways (has (round m i j) s) (added .1) (ap (λ k. has (round m i k) s) e ∙ (ap (λ U. has U s) (sym still) ∙ (ap (λ k. has (round m i (suc k)) s) (sym e) ∙ added .0))))
+        | inr ne ↦ omega (arith, ne, j≤)
       ] in
       (added-number (m .states) _ round-grows (λ s. eqb (m .grade s) 2) round-jump j s (m .states) added less, less)
 
@@ -128,22 +128,22 @@ module _ (m : Arena) (lawful : Lawful m) (many : ℕ) (firsts : List ℕ) (row :
   unfolding first
   upto-stage s lt =
       elim (cases-bool (has (covered m) s)) [
-          inl t ↦
-              let out : has (stage m (m .states)) s ≡ false = not-true (has (stage m (m .states)) s) (sym (covered-not s lt) ∙ t) in
-              let away : has (stage m (suc i)) s ≡ false = elim (cases-bool (has (stage m (suc i)) s)) [
-                  inl h ↦ absurd (both-ways (has (stage m (m .states)) s) out (rising-mono (m .states) _ (stages-grow m) (suc i) (m .states) (omega (arith, i<, row .few)) s h))
-                  | inr f ↦ f
-              ] in
-              lt-leb (at firsts s) i (omega (arith, row .no-first s lt t, i<, row .few, lawful .limited)) ∙ sym away
-          | inr f ↦
-              let number = row .numbered s lt f in
-              elim (cases-bool (has (stage m (suc i)) s)) [
-                  inl h ↦ le-leb (at firsts s) i (omega (arith, number, lowest-min (λ k. has (stage m (suc k)) s) (m .states) i (omega (arith, i<, row .few)) h)) ∙ sym h
-                  | inr g ↦ elim (cases-lt i (at firsts s)) [
-                      inl more ↦ lt-leb (at firsts s) i more ∙ sym g
-                      | inr le ↦ absurd (both-ways (has (stage m (suc i)) s) g (rising-mono (m .states) _ (stages-grow m) (suc (first m s)) (suc i) (omega (arith, number, le)) s (lowest-passes (λ k. has (stage m (suc k)) s) (m .states) (omega (arith, row .below s lt f, row .few)))))
-                  ]
+        | inl t ↦
+            let out : has (stage m (m .states)) s ≡ false = not-true (has (stage m (m .states)) s) (sym (covered-not s lt) ∙ t) in
+            let away : has (stage m (suc i)) s ≡ false = elim (cases-bool (has (stage m (suc i)) s)) [
+              | inl h ↦ absurd (both-ways (has (stage m (m .states)) s) out (rising-mono (m .states) _ (stages-grow m) (suc i) (m .states) (omega (arith, i<, row .few)) s h))
+              | inr f ↦ f
+            ] in
+            lt-leb (at firsts s) i (omega (arith, row .no-first s lt t, i<, row .few, lawful .limited)) ∙ sym away
+        | inr f ↦
+            let number = row .numbered s lt f in
+            elim (cases-bool (has (stage m (suc i)) s)) [
+              | inl h ↦ le-leb (at firsts s) i (omega (arith, number, lowest-min (λ k. has (stage m (suc k)) s) (m .states) i (omega (arith, i<, row .few)) h)) ∙ sym h
+              | inr g ↦ elim (cases-lt i (at firsts s)) [
+                | inl more ↦ lt-leb (at firsts s) i more ∙ sym g
+                | inr le ↦ absurd (both-ways (has (stage m (suc i)) s) g (rising-mono (m .states) _ (stages-grow m) (suc (first m s)) (suc i) (omega (arith, number, le)) s (lowest-passes (λ k. has (stage m (suc k)) s) (m .states) (omega (arith, row .below s lt f, row .few)))))
               ]
+            ]
       ]
 
   -- the labels with which the stage begins
@@ -151,14 +151,14 @@ module _ (m : Arena) (lawful : Lawful m) (many : ℕ) (firsts : List ℕ) (row :
   unfolding turn
   begun labels h =
       record {
-          labelled = λ s e. h s (below s e) ∙ (cond-true (ready m i firsts s) 0 none (is-ready s e) ∙ sym (zeroth s e));
-          early = λ s e. omega (arith, zeroth s e);
-          unlabelled = λ s lt f. h s lt ∙ cond-false (ready m i firsts s) 0 none (elim (cases-bool (ready m i firsts s)) [
-              inr n ↦ n
-              | inl r ↦
-                  let both = ready-is (m .grade s) (leb (at firsts s) i) r in
-                  absurd (both-ways (has (round m i 1) s) f (first-round m lawful i s (both .0) (sym (upto-stage s lt) ∙ both .1)))
-          ])
+        labelled = λ s e. h s (below s e) ∙ (cond-true (ready m i firsts s) 0 none (is-ready s e) ∙ sym (zeroth s e));
+        early = λ s e. omega (arith, zeroth s e);
+        unlabelled = λ s lt f. h s lt ∙ cond-false (ready m i firsts s) 0 none (elim (cases-bool (ready m i firsts s)) [
+          | inr n ↦ n
+          | inl r ↦
+              let both = ready-is (m .grade s) (leb (at firsts s) i) r in
+              absurd (both-ways (has (round m i 1) s) f (first-round m lawful i s (both .0) (sym (upto-stage s lt) ∙ both .1)))
+        ]);
       }
     where
       below : (s : ℕ) → has (round m i 1) s ≡ true → s < m .states
@@ -174,8 +174,8 @@ module _ (m : Arena) (lawful : Lawful m) (many : ℕ) (firsts : List ℕ) (row :
     label-below : (t : ℕ) → t < m .states → ltb (at labels t) j ≡ has (round m i j) t
     label-below t lt =
         elim (cases-bool (has (round m i j) t)) [
-            inl h ↦ lt-ltb (at labels t) j (omega (arith, so-far .labelled t h, so-far .early t h)) ∙ sym h
-            | inr f ↦ le-ltb (at labels t) j (omega (arith, so-far .unlabelled t lt f, j≤, lawful .limited)) ∙ sym f
+          | inl h ↦ lt-ltb (at labels t) j (omega (arith, so-far .labelled t h, so-far .early t h)) ∙ sym h
+          | inr f ↦ le-ltb (at labels t) j (omega (arith, so-far .unlabelled t lt f, j≤, lawful .limited)) ∙ sym f
         ]
 
     -- a state of the stage that no round has so far is ordinary
@@ -189,8 +189,8 @@ module _ (m : Arena) (lawful : Lawful m) (many : ℕ) (firsts : List ℕ) (row :
         let bare = eqb-true (at labels s) none (q .0) in
         let h = sym (upto-stage s lt) ∙ p .0 in
         let f : has (round m i j) s ≡ false = elim (cases-bool (has (round m i j) s)) [
-            inl t ↦ absurd (omega (arith, bare, so-far .labelled s t, so-far .early s t, j≤, lawful .limited))
-            | inr f ↦ f
+          | inl t ↦ absurd (omega (arith, bare, so-far .labelled s t, so-far .early s t, j≤, lawful .limited))
+          | inr f ↦ f
         ] in
         (round-from m lawful i j s lt (ordinary-from (m .grade s) _ _ _ (ordinary s h f) (sym (blocks-agree m lawful (λ t. ltb (at labels t) j) (has (round m i j)) label-below s lt) ∙ q .1)), f)
 
@@ -206,22 +206,22 @@ module _ (m : Arena) (lawful : Lawful m) (many : ℕ) (firsts : List ℕ) (row :
     pub rounded : (after : List ℕ) → ((s : ℕ) → s < m .states → at after s ≡ cond (due m i j firsts labels s) j (at labels s)) → Labelled m i (suc j) after
     rounded after h =
         record {
-            labelled = λ s e. elim (cases-bool (has (round m i j) s)) [
-                inl t ↦ kept s (within s e) (old s (within s e) t) ∙ so-far .labelled s t
-                | inr f ↦ h s (within s e) ∙ (cond-true (due m i j firsts labels s) j (at labels s) (added-due s (e, f)) ∙ sym (added-turn m lawful i j s j≤ (e, f) .0))
-            ];
-            early = λ s e. elim (cases-bool (has (round m i j) s)) [
-                inl t ↦ omega (arith, so-far .early s t)
-                | inr f ↦ omega (arith, added-turn m lawful i j s j≤ (e, f) .0)
-            ];
-            unlabelled = λ s lt e.
-                kept s lt (elim (cases-bool (due m i j firsts labels s)) [
-                    inl d ↦ absurd (both-ways (has (round m i (suc j)) s) e (due-added s lt d .0))
-                    | inr f ↦ f
-                ]) ∙ so-far .unlabelled s lt (elim (cases-bool (has (round m i j) s)) [
-                    inl t ↦ absurd (both-ways (has (round m i (suc j)) s) e (rising (m .states) _ (round-grows m lawful i) j s t))
-                    | inr f ↦ f
-                ])
+          labelled = λ s e. elim (cases-bool (has (round m i j) s)) [
+            | inl t ↦ kept s (within s e) (old s (within s e) t) ∙ so-far .labelled s t
+            | inr f ↦ h s (within s e) ∙ (cond-true (due m i j firsts labels s) j (at labels s) (added-due s (e, f)) ∙ sym (added-turn m lawful i j s j≤ (e, f) .0))
+          ];
+          early = λ s e. elim (cases-bool (has (round m i j) s)) [
+            | inl t ↦ omega (arith, so-far .early s t)
+            | inr f ↦ omega (arith, added-turn m lawful i j s j≤ (e, f) .0)
+          ];
+          unlabelled = λ s lt e.
+              kept s lt (elim (cases-bool (due m i j firsts labels s)) [
+                | inl d ↦ absurd (both-ways (has (round m i (suc j)) s) e (due-added s lt d .0))
+                | inr f ↦ f
+              ]) ∙ so-far .unlabelled s lt (elim (cases-bool (has (round m i j) s)) [
+                | inl t ↦ absurd (both-ways (has (round m i (suc j)) s) e (rising (m .states) _ (round-grows m lawful i) j s t))
+                | inr f ↦ f
+              ]);
         }
       where
         within : (s : ℕ) → has (round m i (suc j)) s ≡ true → s < m .states
@@ -233,8 +233,8 @@ module _ (m : Arena) (lawful : Lawful m) (many : ℕ) (firsts : List ℕ) (row :
         old : (s : ℕ) → s < m .states → has (round m i j) s ≡ true → due m i j firsts labels s ≡ false
         old s lt t =
             elim (cases-bool (due m i j firsts labels s)) [
-                inl d ↦ absurd (both-ways (has (round m i j) s) (due-added s lt d .1) t)
-                | inr f ↦ f
+              | inl d ↦ absurd (both-ways (has (round m i j) s) (due-added s lt d .1) t)
+              | inr f ↦ f
             ]
 
   -- the labels of the stage's own states at its end
@@ -242,8 +242,8 @@ module _ (m : Arena) (lawful : Lawful m) (many : ℕ) (firsts : List ℕ) (row :
     own-first : first m s ≡ i
     own-first =
         elim (cases-bool (has (covered m) s)) [
-            inl t ↦ absurd (omega (arith, own, row .no-first s lt t, i<, row .few, lawful .limited))
-            | inr f ↦ sym (row .numbered s lt f) ∙ own
+          | inl t ↦ absurd (omega (arith, own, row .no-first s lt t, i<, row .few, lawful .limited))
+          | inr f ↦ sym (row .numbered s lt f) ∙ own
         ]
 
     own-label : has (round m i j) s ≡ true → at labels s ≡ second m s
@@ -254,8 +254,8 @@ module _ (m : Arena) (lawful : Lawful m) (many : ℕ) (firsts : List ℕ) (row :
     pub label-done : some (waiting i firsts labels) (m .states) ≡ false → at labels s ≡ second m s
     label-done calm =
         own-label (elim (cases-bool (has (round m i j) s)) [
-            inl t ↦ t
-            | inr f ↦ absurd (both-ways (waiting i firsts labels s) (not-some (waiting i firsts labels) (m .states) s calm lt) (and-from (eqb (at firsts s) i) (unnumbered labels s) (eq-eqb (at firsts s) i own) (eq-eqb (at labels s) none (so-far .unlabelled s lt f))))
+          | inl t ↦ t
+          | inr f ↦ absurd (both-ways (waiting i firsts labels s) (not-some (waiting i firsts labels) (m .states) s calm lt) (and-from (eqb (at firsts s) i) (unnumbered labels s) (eq-eqb (at firsts s) i own) (eq-eqb (at labels s) none (so-far .unlabelled s lt f))))
         ])
 
     -- or all rounds are over
@@ -267,8 +267,8 @@ module _ (m : Arena) (lawful : Lawful m) (many : ℕ) (firsts : List ℕ) (row :
 pub first-row-wide : (m : Arena) (many : ℕ) (firsts : List ℕ) → FirstRow m many firsts → FirstRow m (m .states) firsts
 first-row-wide m many firsts row =
     record {
-        few = omega arith;
-        no-first = row .no-first;
-        numbered = row .numbered;
-        below = λ s lt f. omega (arith, row .below s lt f, row .few)
+      few = omega arith;
+      no-first = row .no-first;
+      numbered = row .numbered;
+      below = λ s lt f. omega (arith, row .below s lt f, row .few);
     }

@@ -158,7 +158,13 @@ fn stage<S: Site>(site: &S, i: u16, firsts: &[u16], labels: &mut [u16], seconds:
 }
 
 // The second numbers of all open states, stage by stage; `count` stages have states. The labels are cleared in the end.
-pub(crate) fn stages<S: Site>(site: &S, count: usize, firsts: &[u16], labels: &mut [u16], seconds: &mut [u16])
+pub(crate) fn stages<S: Site>(
+    site: &S,
+    count: usize,
+    firsts: &[u16],
+    labels: &mut [u16],
+    seconds: &mut [u16],
+)
     requires row { ⌜ FirstRow (S·Site .arena (now site)) count (now firsts) ⌝ }
     requires firsts { ⌜ length (now firsts) ≡ S·Site .arena (now site) .states ⌝ }
     requires labels { ⌜ length (now labels) ≡ S·Site .arena (now site) .states ⌝ }
