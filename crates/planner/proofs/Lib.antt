@@ -1,4 +1,4 @@
+pub mod Agreed
+pub mod Filled
 pub mod Fills
-pub mod Lowest
 pub mod Progress
-pub mod Shorts

@@ -5,8 +5,9 @@ use mathlib.Core.List.{List, map}
 use lib.ListN.{set}
 use Rattle.std.specs.Iters.{counting}
 use Rattle.site.specs.Arena.{Arena}
-use Rattle.site.specs.Counting.{every, some}
+use Rattle.site.specs.Counting.{every}
 use Rattle.site.specs.Laid.{laid}
+use Rattle.parts.specs.Regions.{lowest}
 use Rattle.check.specs.Checked.{rank-kept, numbers-kept}
 use Rattle.check.specs.declared.leaves.Leaf.{Leaf}
 use Rattle.check.specs.declared.leaves.Leaf.the-variants.{Covered, Open}
@@ -20,11 +21,6 @@ pub record Numbers : Type 0 where
   -- the first and the second number of an open state
   pub first : ℕ → ℕ
   pub second : ℕ → ℕ
-
--- the lowest number below a bound that passes a test; the bound itself where none does
-abbrev pub lowest : (ℕ → Bool) → ℕ → ℕ
-lowest p zero = zero
-lowest p (suc n) = cond (some p n) (lowest p n) (cond (p n) n (suc n))
 
 -- event b against command a keeps the rule of the covered state s
 abbrev pub keeps-rule : Arena → Numbers → ℕ → ℕ → ℕ → Bool

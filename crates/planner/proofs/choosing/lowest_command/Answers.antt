@@ -5,9 +5,9 @@ use native.Mathlib.Omega.{arith}
 use Rattle.site.specs.Counting.{every, some}
 use Rattle.site.specs.CountingLaws.{every-fails, every-more}
 use Rattle.parts.proofs.Steps.{some-none}
-use Rattle.planner.specs.Choices.{keeps-rule, lowest}
+use Rattle.planner.specs.Choices.{keeps-rule}
 use Rattle.planner.specs.Rows.{numbers-in}
-use Rattle.planner.proofs.Lowest.{lowest-none, lowest-found}
+use Rattle.parts.proofs.Lowest.{lowest-none, lowest-found}
 use Rattle.planner.proofs.choosing.lowest_command.Needs as need
 
 pub commands-again : need.commands-again

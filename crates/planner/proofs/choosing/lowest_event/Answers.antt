@@ -6,7 +6,7 @@ use Rattle.site.specs.Counting.{some}
 use Rattle.parts.proofs.Steps.{some-none}
 use Rattle.planner.specs.Choices.{answers-rule}
 use Rattle.planner.specs.Rows.{numbers-in}
-use Rattle.planner.proofs.Lowest.{lowest-none, lowest-found}
+use Rattle.parts.proofs.Lowest.{lowest-none, lowest-found}
 use Rattle.planner.proofs.choosing.lowest_event.Needs as need
 
 pub returns-then-answers : need.returns-then-answers

@@ -2,7 +2,7 @@ use native.Mathlib.Omega.{arith}
 use Rattle.site.specs.Counting.{every}
 use Rattle.planner.specs.Choices.{keeps-rule}
 use Rattle.planner.specs.Rows.{numbers-in}
-use Rattle.planner.proofs.Lowest.{lowest-le}
+use Rattle.parts.proofs.Lowest.{lowest-le}
 use Rattle.planner.proofs.writing.leaf_of.Needs as need
 
 -- a command number is at most 16

@@ -5,7 +5,7 @@ use lib.ListN.{length}
 use Rattle.site.proofs.Laid.{laid-none}
 use Rattle.planner.specs.Choices.{answers-rule, chosen-reply}
 use Rattle.planner.specs.Rows.{numbers-in}
-use Rattle.planner.proofs.Lowest.{lowest-le}
+use Rattle.parts.proofs.Lowest.{lowest-le}
 use Rattle.planner.proofs.Fills.{laid-counted-more}
 use Rattle.planner.proofs.writing.write_replies.Needs as need
 
