@@ -1,7 +1,9 @@
 // The lines of a listing: the numbers of states, and a line for each state.
 ghost use mathlib.Core.Path.{_≡_};
+ghost use Prim.Native.Nat.{_≤_};
 ghost use Prim.Native.Nat.{_<_, _+_, _*_};
 ghost use lib.ListN.{length};
+ghost use Rattle.std.specs.Vec.{made};
 ghost use Rattle.site.specs.Refusals.{answered};
 ghost use Rattle.records.specs.Lines.{head-answer, state-answer, counted, line-after};
 use crate::leaf_line::put_leaf;
@@ -24,6 +26,7 @@ pub fn head_line(
     buffer: &mut [u8],
 ) -> Result<usize, Fault>
     ensures answer { λ r. ⌜ answered r ≡ counted (head-answer states covered «open» (length (now (buffer .entry)))) ⌝ }
+    ensures room { λ r. ⌜ made r (λ n. n ≤ 128) ⌝ }
     ensures line { λ r. ⌜ now (buffer .exit) ≡ line-after (head-answer states covered «open» (length (now (buffer .entry)))) (now (buffer .entry)) ⌝ }
 {
     if buffer.len() < LINE_ROOM {
@@ -44,6 +47,7 @@ pub fn state_line<S: Site>(
     buffer: &mut [u8],
 ) -> Result<usize, Fault>
     ensures answer { λ r. ⌜ answered r ≡ counted (state-answer (S·Site .arena (now (site .entry))) (now (leaves .entry)) (now (replies .entry)) state (length (now (buffer .entry)))) ⌝ }
+    ensures room { λ r. ⌜ made r (λ n. n ≤ 128) ⌝ }
     ensures line { λ r. ⌜ now (buffer .exit) ≡ line-after (state-answer (S·Site .arena (now (site .entry))) (now (leaves .entry)) (now (replies .entry)) state (length (now (buffer .entry)))) (now (buffer .entry)) ⌝ }
 {
     let states = site.states();

@@ -10,4 +10,8 @@ returns c =
     put-then (c .put-field-after-states .ensures .put)
     (put-then (c .put-field-after-covered .ensures .put) (put-then (c .put-field-after-open .ensures .put) (c .put-text .ensures))) in
     let done = line-put _ _ (head-fits (c .args .states) (c .args .covered) (c .args .open) (length (c .args .buffer .now)) (omega arith)) whole in
-    record { answer = done .answer; line = done .line }
+    record {
+      answer = done .answer;
+      room = omega (arith, c .put-text .ensures .ends, c .put-field-after-states .ensures .short, c .put-field-after-covered .ensures .short, c .put-field-after-open .ensures .short);
+      line = done .line;
+    }

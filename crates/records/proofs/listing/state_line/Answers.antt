@@ -38,4 +38,10 @@ pub returns : need.returns
 returns g c =
     let m = g .S·Site .arena (c .args .site .now) in
     let done = state-put m (c .args .leaves .now) (c .args .replies .now) (c .args .state) (length (c .args .buffer .now)) _ _ (omega (arith, c .states-states .ensures)) (omega (arith, c .states-states .ensures)) (omega arith) (omega (arith, c .states-states .ensures)) refl (own-are m (c .args .replies .now) (c .args .state) (c .commands .result) (c .commands .ensures)) (c .put-number-after-state .ensures .put) (c .put-leaf-after-leaf .ensures .put) (c .put-text .ensures) in
-    record { answer = done .answer; line = done .line }
+    let law = g .S·Site .lawful (c .args .site .now) in
+    let few : c .commands .result ≤ 16 = omega (arith, c .commands .ensures, law .few-commands (c .args .state)) in
+    record {
+      answer = done .answer;
+      room = omega (arith, c .put-text .ensures .ends, own-few (c .args .replies .now) (c .args .state) (c .commands .result) few, c .put-leaf-after-leaf .ensures .short, c .put-number-after-state .ensures .short, law .limited, c .states-states .ensures);
+      line = done .line;
+    }
