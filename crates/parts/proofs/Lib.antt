@@ -11,4 +11,5 @@ pub mod Seconds
 pub mod Steps
 pub mod Tables
 pub mod Turns
+pub mod Worded
 pub mod Writes
