@@ -21,11 +21,11 @@ use Rattle.check.specs.Checked.{passed, in-turn, rank-kept, numbers-kept, cove
 use Rattle.check.proofs.Deciding.{unless-decides, in-turn-decides, then-ok, decides-below, decides-within, decides-both-within, decides-not-not, passed-decides, never-decides, answered-ok}
 
 -- the rule of ranks
-rank-decides : (g r r′ : ℕ) → Decides (rank-kept g r r′) (RankKept g r r′)
+pub rank-decides : (g r r′ : ℕ) → Decides (rank-kept g r r′) (RankKept g r r′)
 rank-decides g r r′ = ((λ e. grind (arith, tells)), (λ h. grind (arith, tells)))
 
 -- the rule of the two numbers
-numbers-decides : (g u w u′ w′ : ℕ) → Decides (numbers-kept g u w u′ w′) (NumbersKept g u w u′ w′)
+pub numbers-decides : (g u w u′ w′ : ℕ) → Decides (numbers-kept g u w u′ w′) (NumbersKept g u w u′ w′)
 numbers-decides g u w u′ w′ = ((λ e. grind (arith, tells)), (λ h. grind (arith, tells)))
 
 -- an arrow from a covered state

@@ -2,3 +2,4 @@ pub mod Agreed
 pub mod Filled
 pub mod Fills
 pub mod Progress
+pub mod Written
