@@ -4,3 +4,11 @@ pub mod Outcomes
 pub mod Progress
 pub mod Tallies
 pub mod Turns
+pub mod Agreeing
+pub mod Pigeons
+pub mod Chains
+pub mod Parts
+pub mod Keeping
+pub mod Refusing
+pub mod Promises
+pub mod SameCovers

@@ -1,0 +1,78 @@
+-- The record that calls leave is the one that belongs to their run.
+use Prim.Native.Nat.{ℕ, zero, suc, _+_, _*_, _≤_, min}
+use mathlib.Core.Path.{_≡_, refl, sym, _∙_, ap}
+use mathlib.Core.Bool.{Bool, true, false, cond}
+use mathlib.Core.Logic.{_⊎_, inl, inr}
+use mathlib.Core.List.{List, [], _∷_, _++_}
+use native.Mathlib.Omega.{arith}
+use lib.Dec.{eqb, ltb}
+use lib.ListN.{length}
+use Rattle.std.specs.Results.{isOk}
+use Rattle.std.specs.declared.result.Result.{Result}
+use Rattle.std.specs.declared.result.Result.the-variants.{Ok, Err}
+use Rattle.std.specs.declared.option.Option.{Option}
+use Rattle.std.specs.declared.option.Option.the-variants.{Some, None}
+use Rattle.std.proofs.shelf.Tests.{both-ways}
+use Rattle.site.specs.Arena.{Arena, Lawful}
+use Rattle.site.specs.Refusals.{Refusal, refuse, unless}
+use Rattle.check.specs.declared.leaves.Leaf.{Leaf}
+use Rattle.check.specs.declared.runs.Run.{Run}
+use Rattle.check.specs.declared.runs.Run.the-variants.{Blank, Placed}
+use Rattle.check.specs.declared.calls.Call.{Call}
+use Rattle.check.specs.declared.calls.Call.the-variants.{Place, Book, Objection}
+use Rattle.check.specs.Rounds.{answer, after-call, counted, state-of, capped}
+use Rattle.check.specs.Runs.{latest, extended, next-run, ran-from, ran, answers-from, answers-to, recorded, confirmations, doubts, row, left-from, left-by}
+use Rattle.check.specs.RunLaws.{Agrees}
+use Rattle.check.proofs.Refusing.{no-first-book, no-first-objection}
+
+-- one more, capped after or before
+capped-more : (n : ℕ) → capped (capped n + 1) ≡ capped (1 + n)
+capped-more n = omega arith
+
+placed-same : (t : ℕ) {c c′ d d′ o o′ : ℕ} → c ≡ c′ → d ≡ d′ → o ≡ o′ → Placed t c d o ≡ Placed t c′ d′ o′
+placed-same t p q r = cc
+
+module _ (m : Arena) (lawful : Lawful m) (leaves : List Leaf) (replies : List ℕ) where
+  -- one more state counted is that of the longer run
+  counted-more : (t : ℕ) (run : List ℕ) → counted (m .grade t) (Placed t (capped (confirmations m run)) (capped (doubts m run)) (capped (row m run))) ≡ recorded m (t ∷ run)
+  counted-more t run = go (m .grade t) refl (lawful .few-grades t)
+    where
+      go : (g : ℕ) → m .grade t ≡ g → g ≤ 2 → counted (m .grade t) (Placed t (capped (confirmations m run)) (capped (doubts m run)) (capped (row m run))) ≡ recorded m (t ∷ run)
+      go zero e l = rw e (ap (λ n. Placed t n 0 0) (capped-more _))
+      go (suc zero) e l = rw (e, e) (placed-same t (omega arith) (omega arith) refl)
+      go (suc (suc zero)) e l = rw (e, e) (placed-same t (omega arith) (omega arith) (omega arith))
+      go (suc (suc (suc g))) e l = absurd (omega arith)
+
+  -- one call: the record stays the run's, and the state is the same for both
+  same-state : (run : List ℕ) → state-of (recorded m run) ≡ latest run
+  same-state [] = refl
+  same-state (v ∷ older) = refl
+
+  -- the record after a call with an answer is that of the longer run; a round is answered by a state only
+  -- where there is one
+  after-more : (run : List ℕ) (call : Call) (result : Result ℕ Refusal) → answer m leaves replies (latest run) call ≡ result → after-call m result (recorded m run) call ≡ recorded m (extended result run call)
+  after-more [] (Place s) (Ok t) e = counted-more t []
+  after-more (v ∷ older) (Place s) (Ok t) e = counted-more t []
+  after-more [] (Book b) (Ok t) e = absurd (no-first-book m leaves b t e)
+  after-more [] (Objection a) (Ok t) e = absurd (no-first-objection m leaves replies a t e)
+  after-more (v ∷ older) (Book b) (Ok t) e = counted-more t (v ∷ older)
+  after-more (v ∷ older) (Objection b) (Ok t) e = counted-more t (v ∷ older)
+  after-more run (Place s) (Err f) e = refl
+  after-more run (Book s) (Err f) e = refl
+  after-more run (Objection s) (Err f) e = refl
+
+  -- any calls after a run
+  left-more : (run : List ℕ) (calls : List Call) → left-from m leaves replies (recorded m run) calls ≡ recorded m (ran-from m leaves replies run calls)
+  unfolding left-from ran-from
+  left-more run [] = refl
+  left-more run (call ∷ calls) =
+      rw (same-state run, after-more run call _ refl) (left-more (next-run m leaves replies run call) calls)
+
+  -- the calls and the run agree
+  pub agrees : (calls : List Call) → Agrees m leaves replies calls
+  agrees calls =
+      let e : left-by m leaves replies calls ≡ recorded m (ran m leaves replies calls) = left-more [] calls in
+      record {
+        record-is = e;
+        answer-is = λ call. ap (λ at. answer m leaves replies at call) (ap state-of e ∙ same-state (ran m leaves replies calls));
+      }
