@@ -24,26 +24,25 @@ module _
   (objection : List ℕ)
   (accepted′ : Accepted m leaves objection)
   where
-  rank : ℕ → ℕ
+  abbrev rank : ℕ → ℕ
   rank s = rank-of (leaf-at book s)
 
-  first : ℕ → ℕ
+  abbrev first : ℕ → ℕ
   first s = first-of (leaf-at leaves s)
 
-  second : ℕ → ℕ
+  abbrev second : ℕ → ℕ
   second s = second-of (leaf-at leaves s)
 
   -- a state that the book covers and the objection leaves open
-  Torn : ℕ → Type 0
+  abbrev Torn : ℕ → Type 0
   Torn s = (s < m .states) × (is-covered (leaf-at book s) ≡ true) × (is-covered (leaf-at leaves s) ≡ false)
 
   -- the three numbers of t lie below those of s: the first number, then the rank, then the second number
-  Lower : ℕ → ℕ → Type 0
+  abbrev Lower : ℕ → ℕ → Type 0
   Lower t s =
       (first t < first s) ⊎ (((first t ≤ first s) × (rank t < rank s)) ⊎ ((first t ≤ first s) × (rank t ≤ rank s) × (second t < second s)))
 
   bounds : (s : ℕ) → Torn s → (rank s ≤ graded m 1) × (second s ≤ graded m 2)
-  unfolding rank second Torn
   bounds s h =
       let c = covered-at m book replies accepted s (h .0) (h .1) in
       let o = open-at m leaves objection accepted′ s (h .0) (h .2) in
@@ -59,12 +58,46 @@ module _
 
   -- the joint play leads from such a state to a lower one
   onward : (s : ℕ) → Torn s → (t : ℕ) × Torn t × Lower t s
-  unfolding rank first second
-  onward s h = ?
+  onward s h =
+      let c = covered-at m book replies accepted s (h .0) (h .1) in
+      let o = open-at m leaves objection accepted′ s (h .0) (h .2) in
+      let a = c .command in
+      let b = reply-at objection s a in
+      let own = o .keeps .own a (c .keeps .own) in
+      let there = covered-step m book replies accepted s b c own in
+      let here = open-step m leaves objection accepted′ s a o (c .keeps .own) in
+      let to = lawful .closed s a b (h .0) (c .keeps .own) own in
+      (m .next s a b, (to, there .0, here .0), ways (m .grade s) _ _ _ _ _ _ (lawful .few-grades s) (there .1) (here .1))
 
   -- so there is none, whatever the three numbers are
   none-torn : (u r w s : ℕ) → Torn s → first s < u → rank s < r → second s < w → ⊥
   none-torn zero r w s h x y z = omega arith
   none-torn (suc u) zero w s h x y z = omega arith
   none-torn (suc u) (suc r) zero s h x y z = omega arith
-  none-torn (suc u) (suc r) (suc w) s h x y z = ?
+  none-torn (suc u) (suc r) (suc w) s h x y z =
+      let on = onward s h in
+      let t = on .0 in
+      let low = bounds t (on .1) in
+      elim (on .2) [
+        | inl l ↦ none-torn u (graded m 1 + 1) (graded m 2 + 1) t (on .1) (omega arith) (omega arith) (omega arith)
+        | inr (inl l) ↦ none-torn (suc u) r (graded m 2 + 1) t (on .1) (omega arith) (omega arith) (omega arith)
+        | inr (inr l) ↦ none-torn (suc u) (suc r) w t (on .1) (omega arith) (omega arith) (omega arith)
+      ]
+
+  torn-no : (s : ℕ) → Torn s → ⊥
+  torn-no s h = none-torn (first s + 1) (rank s + 1) (second s + 1) s h (omega arith) (omega arith) (omega arith)
+
+pub same-cover : (m : Arena) → Lawful m → SameCover m
+same-cover m lawful leaves replies leaves′ replies′ one other s l =
+    elim (cases-bool (is-covered (leaf-at leaves s))) [
+      | inl yes-one ↦
+          elim (cases-bool (is-covered (leaf-at leaves′ s))) [
+            | inl yes-other ↦ yes-one ∙ sym yes-other
+            | inr no-other ↦ absurd (torn-no m lawful leaves replies one leaves′ replies′ other s (l, yes-one, no-other))
+          ]
+      | inr no-one ↦
+          elim (cases-bool (is-covered (leaf-at leaves′ s))) [
+            | inl yes-other ↦ absurd (torn-no m lawful leaves′ replies′ other leaves replies one s (l, yes-other, no-one))
+            | inr no-other ↦ no-one ∙ sym no-other
+          ]
+    ]
