@@ -43,8 +43,8 @@ module _ (m : Arena) (lawful : Lawful m) (leaves : List Leaf) (replies : List �
       go (suc (suc zero)) e l = rw (e, e) (placed-same t (omega arith) (omega arith) (omega arith))
       go (suc (suc (suc g))) e l = absurd (omega arith)
 
-  -- one call: the record stays the run's, and the state is the same for both
-  same-state : (run : List ℕ) → state-of (recorded m run) ≡ latest run
+  -- the state of the record is that of the run
+  pub same-state : (run : List ℕ) → state-of (recorded m run) ≡ latest run
   same-state [] = refl
   same-state (v ∷ older) = refl
 
@@ -60,6 +60,10 @@ module _ (m : Arena) (lawful : Lawful m) (leaves : List Leaf) (replies : List �
   after-more run (Place s) (Err f) e = refl
   after-more run (Book s) (Err f) e = refl
   after-more run (Objection s) (Err f) e = refl
+
+  -- one more call on the record of a run leaves that of the longer run
+  pub one-more : (run : List ℕ) (call : Call) (before : Run) → before ≡ recorded m run → after-call m (answer m leaves replies (state-of before) call) before call ≡ recorded m (next-run m leaves replies run call)
+  one-more run call before e = rw (e, same-state run) (after-more run call _ refl)
 
   -- any calls after a run
   left-more : (run : List ℕ) (calls : List Call) → left-from m leaves replies (recorded m run) calls ≡ recorded m (ran-from m leaves replies run calls)

@@ -12,3 +12,4 @@ pub mod Keeping
 pub mod Refusing
 pub mod Promises
 pub mod SameCovers
+pub mod CallByCall

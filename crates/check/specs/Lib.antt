@@ -1,6 +1,7 @@
 pub mod Bounded
 pub mod Checked
 pub mod Leaves
+pub mod Played
 pub mod Rounds
 pub mod RunLaws
 pub mod Runs

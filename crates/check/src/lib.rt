@@ -5,6 +5,7 @@ mod bounding;
 pub mod calls;
 pub mod checks;
 pub mod leaves;
+pub mod playing;
 pub mod rounds;
 mod rules;
 pub mod runs;
