@@ -50,10 +50,10 @@ module _ (m : Arena) (lawful : Lawful m) (leaves : List Leaf) (replies : List �
       let state = ap state-of (h .run-is) ∙ same-state m lawful leaves replies (ran m leaves replies (take i calls)) in
       record {
         run-is =
-          rw (take-more calls i d l, ran-push m leaves replies [] (take i calls) call)
-          (e′ ∙ one-more m lawful leaves replies (ran m leaves replies (take i calls)) call run (h .run-is));
+            rw (take-more calls i d l, ran-push m leaves replies [] (take i calls) call)
+            (e′ ∙ one-more m lawful leaves replies (ran m leaves replies (take i calls)) call run (h .run-is));
         written =
-          rw (take-more calls i d l, answers-push m leaves replies [] (take i calls) call, take-more-set answers i r l′, map-push answered (take i answers) r, h .written, e, state) refl;
+            rw (take-more calls i d l, answers-push m leaves replies [] (take i calls) call, take-more-set answers i r l′, map-push answered (take i answers) r, h .written, e, state) refl;
         beyond = drop-set-lt (i + 1) answers i r (omega arith) ∙ sym (drop-drop 1 i answers) ∙ ap (drop 1) (h .beyond) ∙ drop-drop 1 i before;
       }
 

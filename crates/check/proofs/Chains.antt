@@ -50,45 +50,45 @@ module _ (At : ℕ → Type 0) (Step : ℕ → ℕ → Type 0) where
   -- A number that falls at every state that passes a test, never rises, and is not 0 where the test passes:
   -- no more states pass than its bound.
   module _
-    (p : ℕ → Bool)
-    (f : ℕ → ℕ)
-    (bound : ℕ)
-    (falls : (v t : ℕ) → At v → Step v t → cond (p v) 1 0 + f t ≤ f v)
-    (bounded : (t : ℕ) → At t → f t ≤ bound)
-    (lasts : (t : ℕ) → At t → cond (p t) 1 0 ≤ f t)
+      (p : ℕ → Bool)
+      (f : ℕ → ℕ)
+      (bound : ℕ)
+      (falls : (v t : ℕ) → At v → Step v t → cond (p v) 1 0 + f t ≤ f v)
+      (bounded : (t : ℕ) → At t → f t ≤ bound)
+      (lasts : (t : ℕ) → At t → cond (p t) 1 0 ≤ f t)
     where
-    so-far : (t : ℕ) (older : List ℕ) → Chain At Step (t ∷ older) → many p older + f t ≤ bound
-    so-far t [] c = omega (arith, bounded t (c .0))
-    so-far t (v ∷ older) c =
-        let before = so-far v older (c .2) in omega (arith, falls v t (c .2 .0) (c .1))
+      so-far : (t : ℕ) (older : List ℕ) → Chain At Step (t ∷ older) → many p older + f t ≤ bound
+      so-far t [] c = omega (arith, bounded t (c .0))
+      so-far t (v ∷ older) c =
+          let before = so-far v older (c .2) in omega (arith, falls v t (c .2 .0) (c .1))
 
-    pub descends : (vs : List ℕ) → Chain At Step vs → many p vs ≤ bound
-    descends [] c = omega arith
-    descends (t ∷ older) c = omega (arith, so-far t older c, lasts t (c .0))
+      pub descends : (vs : List ℕ) → Chain At Step vs → many p vs ≤ bound
+      descends [] c = omega arith
+      descends (t ∷ older) c = omega (arith, so-far t older c, lasts t (c .0))
 
   -- Each step leads below the state before it, by an order: no state comes twice.
   module _
-    (Below : ℕ → ℕ → Type 0)
-    (down : (v t : ℕ) → At v → Step v t → Below t v)
-    (through : (x y z : ℕ) → Below x y → Below y z → Below x z)
-    (apart : (x y : ℕ) → Below x y → x ≡ y → ⊥)
+      (Below : ℕ → ℕ → Type 0)
+      (down : (v t : ℕ) → At v → Step v t → Below t v)
+      (through : (x y z : ℕ) → Below x y → Below y z → Below x z)
+      (apart : (x y : ℕ) → Below x y → x ≡ y → ⊥)
     where
-    all-below : (x y : ℕ) (zs : List ℕ) → Below x y → All (Below y) zs → All (Below x) zs
-    all-below x y [] l a = tt
-    all-below x y (z ∷ zs) l a = (through x y z l (a .0), all-below x y zs l (a .1))
+      all-below : (x y : ℕ) (zs : List ℕ) → Below x y → All (Below y) zs → All (Below x) zs
+      all-below x y [] l a = tt
+      all-below x y (z ∷ zs) l a = (through x y z l (a .0), all-below x y zs l (a .1))
 
-    all-apart : (x : ℕ) (zs : List ℕ) → All (Below x) zs → All (λ z. x ≡ z → ⊥) zs
-    all-apart x [] a = tt
-    all-apart x (z ∷ zs) a = (apart x z (a .0), all-apart x zs (a .1))
+      all-apart : (x : ℕ) (zs : List ℕ) → All (Below x) zs → All (λ z. x ≡ z → ⊥) zs
+      all-apart x [] a = tt
+      all-apart x (z ∷ zs) a = (apart x z (a .0), all-apart x zs (a .1))
 
-    lowest : (t : ℕ) (older : List ℕ) → Chain At Step (t ∷ older) → All (Below t) older
-    lowest t [] c = tt
-    lowest t (v ∷ older) c =
-        let here = down v t (c .2 .0) (c .1) in (here, all-below t v older here (lowest v older (c .2)))
+      lowest : (t : ℕ) (older : List ℕ) → Chain At Step (t ∷ older) → All (Below t) older
+      lowest t [] c = tt
+      lowest t (v ∷ older) c =
+          let here = down v t (c .2 .0) (c .1) in (here, all-below t v older here (lowest v older (c .2)))
 
-    pub never-twice : (vs : List ℕ) → Chain At Step vs → Different vs
-    never-twice [] c = tt
-    never-twice (t ∷ older) c = (all-apart t older (lowest t older c), never-twice older (c .2))
+      pub never-twice : (vs : List ℕ) → Chain At Step vs → Different vs
+      never-twice [] c = tt
+      never-twice (t ∷ older) c = (all-apart t older (lowest t older c), never-twice older (c .2))
 
 -- where none passes, each fails
 pub none-passes : (p : ℕ → Bool) (vs : List ℕ) → many p vs ≡ 0 → All (λ v. p v ≡ false) vs

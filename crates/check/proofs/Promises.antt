@@ -68,9 +68,9 @@ module _ (m : Arena) (lawful : Lawful m) (leaves : List Leaf) (replies : List �
       record {
         goes-on = λ v b at own. goes run chain v b at own;
         few-doubts = λ vs s none.
-          descends Unconfirmed (BookStep m leaves) (has-grade m 1) rank (graded m 1) rank-falls rank-bounded rank-lasts vs
-          (chain-with (Booked m leaves) (BookStep m leaves) (λ t. has-grade m 0 t ≡ false) vs (none-passes (has-grade m 0) vs none)
-          (chain-stretch (Booked m leaves) (BookStep m leaves) run vs s chain));
+            descends Unconfirmed (BookStep m leaves) (has-grade m 1) rank (graded m 1) rank-falls rank-bounded rank-lasts vs
+            (chain-with (Booked m leaves) (BookStep m leaves) (λ t. has-grade m 0 t ≡ false) vs (none-passes (has-grade m 0) vs none)
+            (chain-stretch (Booked m leaves) (BookStep m leaves) run vs s chain));
       }
     where
       goes : (run : List ℕ) → Chain (Booked m leaves) (BookStep m leaves) run → (v b : ℕ) → latest run ≡ Some v → b < m .events v → isOk (answer m leaves replies (latest run) (Book b)) ≡ true
@@ -145,14 +145,14 @@ module _ (m : Arena) (lawful : Lawful m) (leaves : List Leaf) (replies : List �
       record {
         goes-on = λ v a at own. goes run chain v a at own;
         few-confirmations =
-          descends (Replied m leaves) (ReplyStep m leaves) (has-grade m 0) first (graded m 0) first-falls first-bounded first-lasts run chain;
+            descends (Replied m leaves) (ReplyStep m leaves) (has-grade m 0) first (graded m 0) first-falls first-bounded first-lasts run chain;
         short-rows = λ vs s long.
-          elim (cases-lt 0 (many (has-grade m 0) vs + many (has-grade m 1) vs)) [
-            | inl some ↦ omega arith
-            | inr none ↦
-                let few = ordinary-few vs (chain-stretch (Replied m leaves) (ReplyStep m leaves) run vs s chain) (all-ordinary vs (omega arith) (omega arith)) in
-                absurd (omega arith)
-          ];
+            elim (cases-lt 0 (many (has-grade m 0) vs + many (has-grade m 1) vs)) [
+              | inl some ↦ omega arith
+              | inr none ↦
+                  let few = ordinary-few vs (chain-stretch (Replied m leaves) (ReplyStep m leaves) run vs s chain) (all-ordinary vs (omega arith) (omega arith)) in
+                  absurd (omega arith)
+            ];
       }
     where
       goes : (run : List ℕ) → Chain (Replied m leaves) (ReplyStep m leaves) run → (v a : ℕ) → latest run ≡ Some v → a < m .commands v → isOk (answer m leaves replies (latest run) (Objection a)) ≡ true
@@ -168,15 +168,15 @@ module _ (m : Arena) (lawful : Lawful m) (leaves : List Leaf) (replies : List �
       let run = ran m leaves replies calls in
       record {
         covered = λ s from is.
-          elim (one-part m lawful leaves replies accepted calls) [
-            | inl chain ↦ on-the-book run chain
-            | inr chain ↦ absurd (both-ways _ (chain-origin (Replied m leaves) (ReplyStep m leaves) run s chain from .1) is)
-          ];
+            elim (one-part m lawful leaves replies accepted calls) [
+              | inl chain ↦ on-the-book run chain
+              | inr chain ↦ absurd (both-ways _ (chain-origin (Replied m leaves) (ReplyStep m leaves) run s chain from .1) is)
+            ];
         uncovered = λ s from is.
-          elim (one-part m lawful leaves replies accepted calls) [
-            | inl chain ↦ absurd (both-ways _ is (chain-origin (Booked m leaves) (BookStep m leaves) run s chain from .1))
-            | inr chain ↦ on-the-objection run chain
-          ];
+            elim (one-part m lawful leaves replies accepted calls) [
+              | inl chain ↦ absurd (both-ways _ is (chain-origin (Booked m leaves) (BookStep m leaves) run s chain from .1))
+              | inr chain ↦ on-the-objection run chain
+            ];
       }
 
 pub run-law : (m : Arena) → Lawful m → RunLaw m

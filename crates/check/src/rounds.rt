@@ -103,11 +103,11 @@ impl Run {
         if command >= site.commands(state) {
             return Err(Fault::NoMove { number: command });
         }
-        let event = replies[PLACES * state + command] as usize;
-        if event >= site.events(state) {
+        let reply = replies[PLACES * state + command] as usize;
+        if reply >= site.events(state) {
             return Err(Fault::LeafMove { state });
         }
-        let t = site.next(state, command, event);
+        let t = site.next(state, command, reply);
         self.reach(site, t);
         Ok(t)
     }

@@ -25,7 +25,15 @@ impl Run {
     {
         match (self, grade) {
             (Run::Blank, _) => {}
-            (Run::Placed { confirmations, doubts, row, .. }, Grade::Confirmed) => {
+            (
+                Run::Placed {
+                    confirmations,
+                    doubts,
+                    row,
+                    ..
+                },
+                Grade::Confirmed,
+            ) => {
                 *confirmations = confirmations.saturating_add(1);
                 *doubts = 0;
                 *row = 0;

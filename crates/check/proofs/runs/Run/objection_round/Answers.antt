@@ -2,8 +2,8 @@
 use native.Mathlib.Omega.{arith}
 use Rattle.check.proofs.runs.Run.objection_round.Needs as need
 
-pub add-event : need.add-event
-add-event g c =
+pub add-reply : need.add-reply
+add-reply g c =
     let law = g .S·Site .lawful (c .args .site .now) in
     omega (arith, law .few-commands (c .in-Placed .state), law .limited)
 
