@@ -1,28 +1,21 @@
 -- The record that calls leave is the one that belongs to their run.
-use Prim.Native.Nat.{ℕ, zero, suc, _+_, _*_, _≤_, min}
-use mathlib.Core.Path.{_≡_, refl, sym, _∙_, ap}
-use mathlib.Core.Bool.{Bool, true, false, cond}
-use mathlib.Core.Logic.{_⊎_, inl, inr}
-use mathlib.Core.List.{List, [], _∷_, _++_}
+use Prim.Native.Nat.{ℕ, zero, suc, _+_, _≤_}
+use mathlib.Core.Path.{_≡_, refl, _∙_, ap}
+use mathlib.Core.List.{List, [], _∷_}
 use native.Mathlib.Omega.{arith}
-use lib.Dec.{eqb, ltb}
-use lib.ListN.{length}
-use Rattle.std.specs.Results.{isOk}
 use Rattle.std.specs.declared.result.Result.{Result}
 use Rattle.std.specs.declared.result.Result.the-variants.{Ok, Err}
-use Rattle.std.specs.declared.option.Option.{Option}
-use Rattle.std.specs.declared.option.Option.the-variants.{Some, None}
-use Rattle.std.proofs.shelf.Tests.{both-ways}
 use Rattle.site.specs.Arena.{Arena, Lawful}
-use Rattle.site.specs.Refusals.{Refusal, refuse, unless}
+use Rattle.site.specs.Refusals.{Refusal}
 use Rattle.check.specs.declared.leaves.Leaf.{Leaf}
 use Rattle.check.specs.declared.runs.Run.{Run}
-use Rattle.check.specs.declared.runs.Run.the-variants.{Blank, Placed}
+use Rattle.check.specs.declared.runs.Run.the-variants.{Placed}
 use Rattle.check.specs.declared.calls.Call.{Call}
 use Rattle.check.specs.declared.calls.Call.the-variants.{Place, Book, Objection}
 use Rattle.check.specs.Rounds.{answer, after-call, counted, state-of, capped}
-use Rattle.check.specs.Runs.{latest, extended, next-run, ran-from, ran, answers-from, answers-to, recorded, confirmations, doubts, row, left-from, left-by}
+use Rattle.check.specs.Runs.{latest, extended, next-run, ran-from, ran, recorded, confirmations, doubts, row, left-from, left-by}
 use Rattle.check.specs.RunLaws.{Agrees}
+use Rattle.check.proofs.Blanks.{blank-while}
 use Rattle.check.proofs.Refusing.{no-first-book, no-first-objection}
 
 -- one more, capped after or before
@@ -79,4 +72,5 @@ module _ (m : Arena) (lawful : Lawful m) (leaves : List Leaf) (replies : List �
       record {
         record-is = e;
         answer-is = λ call. ap (λ at. answer m leaves replies at call) (ap state-of e ∙ same-state (ran m leaves replies calls));
+        blank-while = blank-while m leaves replies calls;
       }

@@ -9,7 +9,7 @@ use Rattle.std.specs.declared.result.Result.the-variants.{Ok}
 use Rattle.std.proofs.shelf.Lists.{take-more, take-more-set, drop-set-lt, drop-drop, map-push, take-all}
 use Rattle.std.proofs.shelf.Tests.{le-ltb}
 use Rattle.site.specs.Arena.{Arena, Lawful}
-use Rattle.site.specs.Refusals.{Refusal, answered}
+use Rattle.site.specs.Refusals.{answered}
 use Rattle.site.specs.declared.faults.Fault.{Fault}
 use Rattle.check.specs.declared.leaves.Leaf.{Leaf}
 use Rattle.check.specs.declared.runs.Run.{Run}

@@ -1,17 +1,14 @@
 -- What acceptance says of a covered state and of an open one, and of the steps that rounds take there.
-use Prim.Native.Nat.{ℕ, _+_, _*_, _≤_, _<_}
+use Prim.Native.Nat.{ℕ, _<_}
 use mathlib.Core.Path.{_≡_, refl, sym, _∙_, ap}
-use mathlib.Core.Bool.{Bool, true, false, cond}
+use mathlib.Core.Bool.{true, false}
 use mathlib.Core.List.{List}
-use native.Mathlib.Omega.{arith}
-use lib.Dec.{leb, ltb}
-use lib.ListN.{length}
-use Rattle.std.specs.declared.result.Result.{Result}
-use Rattle.std.specs.declared.result.Result.the-variants.{Ok, Err}
+use lib.Dec.{leb}
+use Rattle.std.specs.declared.result.Result.the-variants.{Ok}
 use Rattle.std.specs.declared.option.Option.the-variants.{Some}
 use Rattle.std.proofs.shelf.Tests.{le-ltb, lt-leb, leb-false, false≢true, true≢false}
-use Rattle.site.specs.Arena.{Arena, Lawful, graded}
-use Rattle.site.specs.Refusals.{Refusal, refuse, unless}
+use Rattle.site.specs.Arena.{Arena}
+use Rattle.site.specs.Refusals.{refuse, unless}
 use Rattle.check.specs.declared.leaves.Leaf.{Leaf}
 use Rattle.check.specs.declared.leaves.Leaf.the-variants.{Covered, Open}
 use Rattle.check.specs.Leaves.{leaf-at, reply-at, is-covered}

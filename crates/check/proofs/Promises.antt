@@ -1,29 +1,28 @@
 -- The promises to runs by accepted leaves and replies.
-use Prim.Native.Nat.{ℕ, suc, _+_, _*_, _≤_, _<_}
-use mathlib.Core.Path.{_≡_, refl, sym, _∙_, ap}
-use mathlib.Core.Bool.{Bool, true, false, cond}
-use mathlib.Core.Logic.{_⊎_, inl, inr}
+use Prim.Native.Nat.{ℕ, _+_, _≤_, _<_}
+use mathlib.Core.Path.{_≡_, ap}
+use mathlib.Core.Bool.{true, false, cond}
+use mathlib.Core.Logic.{inl, inr}
 use mathlib.Core.List.{List, [], _∷_}
 use native.Mathlib.Omega.{arith}
-use lib.Dec.{eqb}
 use lib.ListN.{length}
 use Rattle.std.specs.Results.{isOk}
 use Rattle.std.specs.shelf.Lists.{All}
-use Rattle.std.specs.declared.option.Option.the-variants.{Some, None}
-use Rattle.std.proofs.shelf.Tests.{both-ways, cases-eq, eq-eqb, ne-eqb, eqb-true, cases-lt}
+use Rattle.std.specs.declared.option.Option.the-variants.{Some}
+use Rattle.std.proofs.shelf.Tests.{both-ways, eqb-true, cases-lt}
 use Rattle.std.proofs.shelf.Ways.{tells}
 use Rattle.site.specs.Arena.{Arena, Lawful, graded}
 use Rattle.check.specs.declared.leaves.Leaf.{Leaf}
 use Rattle.check.specs.declared.calls.Call.{Call}
 use Rattle.check.specs.declared.calls.Call.the-variants.{Book, Objection}
-use Rattle.check.specs.Leaves.{leaf-at, reply-at, is-covered}
-use Rattle.check.specs.Witness.{RankKept, NumbersKept, Accepted}
+use Rattle.check.specs.Leaves.{leaf-at}
+use Rattle.check.specs.Witness.{Accepted}
 use Rattle.check.specs.Rounds.{answer}
-use Rattle.check.specs.Runs.{latest, origin, many, has-grade, ran}
-use Rattle.check.specs.RunLaws.{Stretch, OnTheBook, OnTheObjection, Kept, RunLaw}
+use Rattle.check.specs.Runs.{latest, many, has-grade, ran}
+use Rattle.check.specs.RunLaws.{OnTheBook, OnTheObjection, Kept, RunLaw}
 use Rattle.check.proofs.Agreeing.{agrees}
 use Rattle.check.proofs.Chains.{Chain, chain-stretch, chain-origin, chain-with, descends, never-twice, none-passes}
-use Rattle.check.proofs.Keeping.{Booked, BookStep, Replied, ReplyStep, OnePart, one-part}
+use Rattle.check.proofs.Keeping.{Booked, BookStep, Replied, ReplyStep, one-part}
 use Rattle.check.proofs.Parts.{rank-of, first-of, second-of, covered-at, open-at, covered-step, open-step, book-goes, objection-goes}
 use Rattle.check.proofs.Pigeons.{pigeons}
 
@@ -31,11 +30,6 @@ use Rattle.check.proofs.Pigeons.{pigeons}
 chain-all : (At : ℕ → Type 0) (Step : ℕ → ℕ → Type 0) (Q : ℕ → Type 0) → ((t : ℕ) → At t → Q t) → (vs : List ℕ) → Chain At Step vs → All Q vs
 chain-all At Step Q f [] c = tt
 chain-all At Step Q f (t ∷ older) c = (f t (c .0), chain-all At Step Q f older (c .2))
-
--- two properties of all
-all-both : (P Q : ℕ → Type 0) (vs : List ℕ) → All P vs → All Q vs → All (λ t. P t × Q t) vs
-all-both P Q [] p q = tt
-all-both P Q (v ∷ vs) p q = ((p .0, q .0), all-both P Q vs (p .1) (q .1))
 
 module _ (m : Arena) (lawful : Lawful m) (leaves : List Leaf) (replies : List ℕ) (accepted : Accepted m leaves replies) where
   -- a covered state without confirmation: the rank falls at a doubted one and never rises

@@ -6,7 +6,7 @@ use mathlib.Core.Bool.{true, false}
 use mathlib.Core.Logic.{_⊎_, inl, inr}
 use mathlib.Core.List.{List}
 use native.Mathlib.Omega.{arith}
-use Rattle.std.proofs.shelf.Tests.{cases-bool, cases-lt, cases-eq}
+use Rattle.std.proofs.shelf.Tests.{cases-bool, cases-lt}
 use Rattle.site.specs.Arena.{Arena, Lawful, graded}
 use Rattle.check.specs.declared.leaves.Leaf.{Leaf}
 use Rattle.check.specs.Leaves.{leaf-at, reply-at, is-covered}

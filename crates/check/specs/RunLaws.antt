@@ -4,15 +4,17 @@ use mathlib.Core.Path.{_≡_}
 use mathlib.Core.Bool.{true, false}
 use mathlib.Core.List.{List, _++_}
 use lib.ListN.{length}
+use Rattle.std.specs.Orderings.{Decides}
 use Rattle.std.specs.Results.{isOk}
 use Rattle.std.specs.declared.option.Option.the-variants.{Some}
 use Rattle.site.specs.Arena.{Arena, graded}
 use Rattle.check.specs.declared.leaves.Leaf.{Leaf}
+use Rattle.check.specs.declared.runs.Run.the-variants.{Blank}
 use Rattle.check.specs.declared.calls.Call.{Call}
 use Rattle.check.specs.declared.calls.Call.the-variants.{Book, Objection}
 use Rattle.check.specs.Leaves.{leaf-at, is-covered}
 use Rattle.check.specs.Rounds.{answer, state-of}
-use Rattle.check.specs.Runs.{latest, origin, many, has-grade, ran, recorded, left-by}
+use Rattle.check.specs.Runs.{latest, origin, many, has-grade, ran, recorded, left-by, unplaced}
 use Rattle.check.specs.Witness.{Accepted}
 
 -- vs are states of the run that came one after the other
@@ -40,11 +42,13 @@ pub record Kept (m : Arena) (leaves : List Leaf) (replies : List ℕ) (calls : L
   pub covered : (s : ℕ) → origin (ran m leaves replies calls) ≡ Some s → is-covered (leaf-at leaves s) ≡ true → OnTheBook m leaves replies (ran m leaves replies calls)
   pub uncovered : (s : ℕ) → origin (ran m leaves replies calls) ≡ Some s → is-covered (leaf-at leaves s) ≡ false → OnTheObjection m leaves replies (ran m leaves replies calls)
 
--- The calls and the run agree: the calls leave of a blank record what belongs to the run, and any further
--- call is answered from the record as it is from the run.
+-- The calls and the run agree: the calls leave of a blank record what belongs to the run, any further call
+-- is answered from the record as it is from the run, and the record is blank exactly while no placing has
+-- been accepted.
 pub record Agrees (m : Arena) (leaves : List Leaf) (replies : List ℕ) (calls : List Call) : Type 0 where
   pub record-is : left-by m leaves replies calls ≡ recorded m (ran m leaves replies calls)
   pub answer-is : (call : Call) → answer m leaves replies (state-of (left-by m leaves replies calls)) call ≡ answer m leaves replies (latest (ran m leaves replies calls)) call
+  pub blank-while : Decides (unplaced m calls) (left-by m leaves replies calls ≡ Blank)
 
 -- The law of runs: for any leaves, replies and list of calls the record is the run's; and where the leaves
 -- and replies are accepted, the run keeps the promises of its part.

@@ -1,8 +1,8 @@
 -- The run that a list of calls makes, worked out from the calls alone, and the record that belongs to it.
 use Prim.Native.Nat.{ℕ, _+_}
-use mathlib.Core.Bool.{Bool, not, cond}
+use mathlib.Core.Bool.{Bool, true, not, cond, _&&_}
 use mathlib.Core.List.{List, [], _∷_}
-use lib.Dec.{eqb}
+use lib.Dec.{eqb, leb}
 use lib.ListN.{length}
 use Rattle.std.specs.declared.result.Result.{Result}
 use Rattle.std.specs.declared.result.Result.the-variants.{Ok, Err}
@@ -101,3 +101,10 @@ left-from m leaves replies run (call ∷ calls) =
 -- the record that a list of calls leaves of a blank one
 abbrev pub left-by : Arena → List Leaf → List ℕ → List Call → Run
 left-by m leaves replies calls = left-from m leaves replies Blank calls
+
+-- none of the calls is an accepted placing: each placing is at a number that is no state
+abbrev pub unplaced : Arena → List Call → Bool
+unplaced m [] = true
+unplaced m (Place s ∷ calls) = leb (m .states) s && unplaced m calls
+unplaced m (Book b ∷ calls) = unplaced m calls
+unplaced m (Objection a ∷ calls) = unplaced m calls
