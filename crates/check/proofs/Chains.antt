@@ -6,7 +6,7 @@ use mathlib.Core.List.{List, [], _∷_, _++_}
 use native.Mathlib.Omega.{arith}
 use Rattle.std.specs.declared.option.Option.the-variants.{Some}
 use Rattle.std.specs.shelf.Lists.{All}
-use Rattle.check.specs.Runs.{origin, many}
+use Rattle.check.specs.Runs.{latest, origin, many}
 use Rattle.check.specs.RunLaws.{Stretch}
 use Rattle.check.proofs.Pigeons.{Different}
 
@@ -40,6 +40,16 @@ module _ (At : ℕ → Type 0) (Step : ℕ → ℕ → Type 0) where
   chain-origin [] s c e = let z : _≡_ {A = ℕ} 0 1 = cc in absurd (omega arith)
   chain-origin (v ∷ []) s c e = let same : v ≡ s = cc in rw same at (c .0)
   chain-origin (v ∷ (w ∷ older)) s c e = chain-origin (w ∷ older) s (c .2) e
+
+  -- its latest state has the property
+  pub chain-latest : (run : List ℕ) (v : ℕ) → Chain At Step run → latest run ≡ Some v → At v
+  chain-latest [] v c e = let z : _≡_ {A = ℕ} 0 1 = cc in absurd (omega arith)
+  chain-latest (t ∷ older) v c e = let same : t ≡ v = cc in rw same at (c .0)
+
+  -- what the property says of each holds of all
+  pub chain-all : (Q : ℕ → Type 0) → ((t : ℕ) → At t → Q t) → (vs : List ℕ) → Chain At Step vs → All Q vs
+  chain-all Q f [] c = tt
+  chain-all Q f (t ∷ older) c = (f t (c .0), chain-all Q f older (c .2))
 
   -- a further property of all its states
   pub chain-with : (Q : ℕ → Type 0) (vs : List ℕ) → All Q vs → Chain At Step vs → Chain (λ t. At t × Q t) Step vs

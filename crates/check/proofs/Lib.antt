@@ -1,10 +1,12 @@
 pub mod Agreeing
 pub mod Blanks
+pub mod BookRuns
 pub mod CallByCall
 pub mod Chains
 pub mod Deciding
 pub mod Keeping
 pub mod Laws
+pub mod ObjectionRuns
 pub mod Outcomes
 pub mod Parts
 pub mod Pigeons
