@@ -1,6 +1,9 @@
 -- Call by call: the record and the answers stay those of the run.
-use mathlib.Core.Path.{refl}
+use mathlib.Core.Path.{_≡_, refl}
+use mathlib.Core.Bool.{true}
 use native.Mathlib.Omega.{arith}
+use lib.Dec.{ltb}
+use lib.ListN.{length}
 use Rattle.std.proofs.shelf.Tests.{lt-ltb}
 use Rattle.check.proofs.CallByCall.{none-played, one-played, all-played}
 use Rattle.check.proofs.Promises.{run-law}
@@ -10,8 +13,9 @@ pub returns-then-answers-calls : need.returns-then-answers-calls
 returns-then-answers-calls g c =
     let m = g .S·Site .arena (c .args .site .now) in
     let lawful = g .S·Site .lawful (c .args .site .now) in
+    let short : ltb (length (c .args .answers .now)) (length (c .args .calls .now)) ≡ true = lt-ltb _ _ (omega arith) in
     record {
-      outcome = let short = lt-ltb _ _ (c .if-answers-calls .taken) in rw short refl;
+      outcome = rw short refl;
       written = λ l. absurd (omega arith);
       beyond = refl;
       refused = λ l. refl;
