@@ -1,4 +1,8 @@
 pub mod Bounded
 pub mod Checked
 pub mod Leaves
+pub mod Played
+pub mod Rounds
+pub mod RunLaws
+pub mod Runs
 pub mod Witness

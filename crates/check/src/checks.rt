@@ -5,6 +5,7 @@ ghost use Rattle.std.specs.Results.{isOk};
 ghost use Rattle.site.specs.Refusals.{answered};
 ghost use Rattle.check.specs.Witness.{Accepted};
 ghost use Rattle.check.specs.Checked.{checked};
+ghost use Rattle.check.specs.RunLaws.{RunLaw, SameCover};
 use crate::bounding::bounds_of;
 use crate::leaves::Counts;
 use crate::leaves::Leaf;
@@ -14,10 +15,13 @@ use site::faults::Fault;
 use site::interface::Site;
 
 // Tests every state's leaf from state 0 on, and says how many states are covered and how many open, or
-// what is wrong at the first that fails. Its yes means that the leaves and replies are accepted.
+// what is wrong at the first that fails. Its yes means that the leaves and replies are accepted; then every
+// run by them keeps the promises of its part, and whatever else is accepted covers the same states.
 pub fn check<S: Site>(site: &S, leaves: &[Leaf], replies: &[u8]) -> Result<Counts, Fault>
     ensures outcome { λ r. ⌜ answered r ≡ checked (S·Site .arena (now (site .entry))) (now (leaves .entry)) (now (replies .entry)) ⌝ }
     ensures law { λ r. ⌜ Decides (isOk r) (Accepted (S·Site .arena (now (site .entry))) (now (leaves .entry)) (now (replies .entry))) ⌝ }
+    ensures runs { λ _. ⌜ RunLaw (S·Site .arena (now (site .entry))) ⌝ }
+    ensures cover { λ _. ⌜ SameCover (S·Site .arena (now (site .entry))) ⌝ }
 {
     let n = site.states();
     if leaves.len() < n {
