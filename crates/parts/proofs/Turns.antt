@@ -33,7 +33,7 @@ pub record Labelled (m : Arena) (i j : ℕ) (labels : List ℕ) : Type 0 where
   pub unlabelled : (s : ℕ) → s < m .states → has (round m i j) s ≡ false → at labels s ≡ none
 
 module _ (m : Arena) (lawful : Lawful m) (i : ℕ) where
-  round-grows : Growing (m .states) (G m (stage m i) (stage m (suc i)))
+  pub round-grows : Growing (m .states) (G m (stage m i) (stage m (suc i)))
   round-grows = G-grows m (stage m i) (stage m (suc i))
 
   pub round-end : least (m .states) (G m (stage m i) (stage m (suc i))) ≡ stage m (suc i)

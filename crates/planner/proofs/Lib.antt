@@ -1,3 +1,4 @@
+pub mod Acceptance
 pub mod Agreed
 pub mod Filled
 pub mod Fills
