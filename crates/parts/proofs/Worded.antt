@@ -19,17 +19,17 @@ use Rattle.parts.proofs.Turns.{round-last}
 pub greatest-is : (n : ℕ) (f : Region → Region) → Growing n f → Greatest n (λ Z. Z ≡ f Z) (greatest n f)
 greatest-is n f grow =
     record {
-        size = greatest-size n f grow;
-        holds = sym (greatest-fixed n f grow);
-        most = λ V size e. greatest-in n f grow V size (λ s h. subst (λ U. has U s ≡ true) e h)
+      size = greatest-size n f grow;
+      holds = sym (greatest-fixed n f grow);
+      most = λ V size e. greatest-in n f grow V size (λ s h. subst (λ U. has U s ≡ true) e h);
     }
 
 pub least-is : (n : ℕ) (f : Region → Region) → Growing n f → Least n (λ Z. Z ≡ f Z) (least n f)
 least-is n f grow =
     record {
-        size = least-size n f grow;
-        holds = sym (least-fixed n f grow);
-        fewest = λ V size e. least-out n f grow V (λ s h. subst (λ U. has U s ≡ true) (sym e) h)
+      size = least-size n f grow;
+      holds = sym (least-fixed n f grow);
+      fewest = λ V size e. least-out n f grow V (λ s h. subst (λ U. has U s ≡ true) (sym e) h);
     }
 
 -- there is only one
@@ -54,18 +54,18 @@ module _ (m : Arena) where
   limit-is : (X : Region) → Least (m .states) (λ Y. Greatest (m .states) (λ Z. Z ≡ F m X Y Z) Y) (limit m X)
   limit-is X =
       record {
-          size = least-size (m .states) _ (levels-grow m X);
-          holds = subst-greatest (m .states) (λ Z. Z ≡ F m X (limit m X) Z) (greatest (m .states) (F m X (limit m X))) (limit m X) (least-fixed (m .states) _ (levels-grow m X)) (greatest-is (m .states) (F m X (limit m X)) (F-grows m X (limit m X)));
-          fewest = λ Y size h. least-out (m .states) _ (levels-grow m X) Y (λ s e. subst (λ U. has U s ≡ true) (inner-fixed X Y h) e)
+        size = least-size (m .states) _ (levels-grow m X);
+        holds = subst-greatest (m .states) (λ Z. Z ≡ F m X (limit m X) Z) (greatest (m .states) (F m X (limit m X))) (limit m X) (least-fixed (m .states) _ (levels-grow m X)) (greatest-is (m .states) (F m X (limit m X)) (F-grows m X (limit m X)));
+        fewest = λ Y size h. least-out (m .states) _ (levels-grow m X) Y (λ s e. subst (λ U. has U s ≡ true) (inner-fixed X Y h) e);
       }
 
   pub covered-words : Greatest (m .states) (λ X. Least (m .states) (λ Y. Greatest (m .states) (λ Z. Z ≡ F m X Y Z) Y) X) (covered m)
   unfolding covered
   covered-words =
       record {
-          size = covered-size m;
-          holds = subst (Least (m .states) (λ Y. Greatest (m .states) (λ Z. Z ≡ F m (covered m) Y Z) Y)) (covered-fixed m) (limit-is (covered m));
-          most = λ X size h. greatest-in (m .states) (limit m) (covers-grow m) X size (λ s e. subst (λ U. has U s ≡ true) (least-one (m .states) (λ Y. Greatest (m .states) (λ Z. Z ≡ F m X Y Z) Y) X (limit m X) h (limit-is X)) e)
+        size = covered-size m;
+        holds = subst (Least (m .states) (λ Y. Greatest (m .states) (λ Z. Z ≡ F m (covered m) Y Z) Y)) (covered-fixed m) (limit-is (covered m));
+        most = λ X size h. greatest-in (m .states) (limit m) (covers-grow m) X size (λ s e. subst (λ U. has U s ≡ true) (least-one (m .states) (λ Y. Greatest (m .states) (λ Z. Z ≡ F m X Y Z) Y) X (limit m X) h (limit-is X)) e);
       }
 
   pub stage-words : (X : Region) → Greatest (m .states) (λ Y. Least (m .states) (λ Z. Z ≡ G m X Y Z) Y) (greatest (m .states) (λ Y. least (m .states) (G m X Y)))
@@ -73,9 +73,9 @@ module _ (m : Arena) where
       let f : Region → Region = λ Y. least (m .states) (G m X Y) in
       let top = greatest (m .states) f in
       record {
-          size = greatest-size (m .states) f (rounds-grow m X);
-          holds = subst (Least (m .states) (λ Z. Z ≡ G m X top Z)) (greatest-fixed (m .states) f (rounds-grow m X)) (least-is (m .states) (G m X top) (G-grows m X top));
-          most = λ Y size h. greatest-in (m .states) f (rounds-grow m X) Y size (λ s e. subst (λ U. has U s ≡ true) (least-one (m .states) (λ Z. Z ≡ G m X Y Z) Y (least (m .states) (G m X Y)) h (least-is (m .states) (G m X Y) (G-grows m X Y))) e)
+        size = greatest-size (m .states) f (rounds-grow m X);
+        holds = subst (Least (m .states) (λ Z. Z ≡ G m X top Z)) (greatest-fixed (m .states) f (rounds-grow m X)) (least-is (m .states) (G m X top) (G-grows m X top));
+        most = λ Y size h. greatest-in (m .states) f (rounds-grow m X) Y size (λ s e. subst (λ U. has U s ≡ true) (least-one (m .states) (λ Z. Z ≡ G m X Y Z) Y (least (m .states) (G m X Y)) h (least-is (m .states) (G m X Y) (G-grows m X Y))) e);
       }
 
 module _ (m : Arena) (lawful : Lawful m) where
@@ -90,8 +90,8 @@ module _ (m : Arena) (lawful : Lawful m) where
   stages-still : (i : ℕ) → Within (stage m i) (stage m (m .states))
   stages-still i =
       elim (cases-lt i (m .states)) [
-          inl lt ↦ rising-mono (m .states) _ (stages-grow m) i (m .states) (omega arith)
-          | inr ge ↦ λ s e. subst (λ U. has U s ≡ true) (rising-stuck (m .states) _ (stages-grow m) (m .states) i (λ t h. subst (λ U. has U t ≡ true) still h) ge) e
+        | inl lt ↦ rising-mono (m .states) _ (stages-grow m) i (m .states) (omega arith)
+        | inr ge ↦ λ s e. subst (λ U. has U s ≡ true) (rising-stuck (m .states) _ (stages-grow m) (m .states) i (λ t h. subst (λ U. has U t ≡ true) still h) ge) e
       ]
 
   some-stage-is : (s : ℕ) → s < m .states → has (covered m) s ≡ false → (i : ℕ) × (i < m .states) × (has (stage m (suc i)) s ≡ true)
@@ -103,16 +103,16 @@ module _ (m : Arena) (lawful : Lawful m) where
   pub words : Words m
   words =
       record {
-          covered-part = covered-words m;
-          no-level = refl;
-          levels = λ k. greatest-is (m .states) (F m (covered m) (level m (covered m) k)) (F-grows m (covered m) (level m (covered m) k));
-          no-stage = refl;
-          stages = λ i. stage-words m (stage m i);
-          no-round = λ i. refl;
-          rounds = λ i j. refl;
-          last-round = round-last m lawful;
-          some-stage = some-stage-is;
-          no-both = λ s i cov h.
-              let lt = stage-below m lawful i s h in
-              both-ways (has (stage m (m .states)) s) (not-true (has (stage m (m .states)) s) (sym (covered-not s lt) ∙ cov)) (stages-still i s h)
+        covered-part = covered-words m;
+        no-level = refl;
+        levels = λ k. greatest-is (m .states) (F m (covered m) (level m (covered m) k)) (F-grows m (covered m) (level m (covered m) k));
+        no-stage = refl;
+        stages = λ i. stage-words m (stage m i);
+        no-round = λ i. refl;
+        rounds = λ i j. refl;
+        last-round = round-last m lawful;
+        some-stage = some-stage-is;
+        no-both = λ s i cov h.
+            let lt = stage-below m lawful i s h in
+            both-ways (has (stage m (m .states)) s) (not-true (has (stage m (m .states)) s) (sym (covered-not s lt) ∙ cov)) (stages-still i s h);
       }

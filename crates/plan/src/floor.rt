@@ -2,10 +2,9 @@
 use crate::failures::Failure;
 use crate::failures::FailureFromAlloc;
 use crate::failures::FailureFromFault;
-use check::checks::check;
 use check::leaves::Leaf;
 use check::leaves::PLACES;
-use planner::planning::plan;
+use planner::certifying::certify;
 use records::listing::head_line;
 use records::listing::state_line;
 use records::reading::read_table;
@@ -24,7 +23,7 @@ const MOST_ARROWS: usize = 16384;
 const LINE: usize = 128;
 
 // Reads the table, plans it, checks the plan and lists it; the first refusal of any of these is the answer.
-pub fn list_floor(heap: Global, bytes: &[u8]) -> Result<Vec<u8>, Failure> {
+pub(crate) fn list_floor(heap: Global, bytes: &[u8]) -> Result<Vec<u8>, Failure> {
     let blank = Row {
         grade: Grade::Ordinary,
         commands: 0,

@@ -8,7 +8,7 @@ use std::io::Read;
 const LONGEST: usize = 53252;
 
 // Reads standard input to its end, or as far as no table goes.
-pub fn read_input(rt: &LibcRuntime) -> Result<Vec<u8>, Failure> {
+pub(crate) fn read_input(rt: &LibcRuntime) -> Result<Vec<u8>, Failure> {
     let mut bytes = vec![in rt.alloc(); 0u8; LONGEST]?;
     let mut filled = 0usize;
     let mut stdin = rt.stdin();

@@ -89,8 +89,8 @@ module _ (m : Arena) (lawful : Lawful m) where
   stage-open : (i s : ℕ) → has (stage m i) s ≡ true → has (covered m) s ≡ false
   stage-open i s h =
       elim (cases-bool (has (covered m) s)) [
-          inl cov ↦ absurd (words m lawful .no-both s i cov h)
-          | inr f ↦ f
+        | inl cov ↦ absurd (words m lawful .no-both s i cov h)
+        | inr f ↦ f
       ]
 
   first-small : (s : ℕ) → s < m .states → has (covered m) s ≡ false → regions.first m s < m .states
@@ -191,28 +191,28 @@ module _ (m : Arena) (lawful : Lawful m) where
         let k = chosen-keeps s cov in
         let a = chosen-command m (numbers m) s in
         record {
-            own = k .0;
-            bounded = rank-bounded s cov;
-            stays = λ b b<.
-                let t = m .next s a b in
-                let t< = lawful .closed s a b lt (k .0) b< in
-                let both = and-parts (has (covered m) t) (rank-kept (m .grade s) (regions.rank m s) (regions.rank m t)) (k .1 b b<) in
-                subst (StaysCovered (m .grade s) (regions.rank m s)) (sym (leaf-is t t< ∙ cond-true (has (covered m) t) _ _ (both .0))) (rank-decides (m .grade s) (regions.rank m s) (regions.rank m t) .0 (both .1))
+          own = k .0;
+          bounded = rank-bounded s cov;
+          stays = λ b b<.
+              let t = m .next s a b in
+              let t< = lawful .closed s a b lt (k .0) b< in
+              let both = and-parts (has (covered m) t) (rank-kept (m .grade s) (regions.rank m s) (regions.rank m t)) (k .1 b b<) in
+              subst (StaysCovered (m .grade s) (regions.rank m s)) (sym (leaf-is t t< ∙ cond-true (has (covered m) t) _ _ (both .0))) (rank-decides (m .grade s) (regions.rank m s) (regions.rank m t) .0 (both .1));
         }
 
     keeps-open : (s : ℕ) → s < m .states → has (covered m) s ≡ false → KeepsOpen m L R s (regions.first m s) (regions.second m s)
     unfolding R
     keeps-open s lt f =
         record {
-            bounded-first = first-bounded s lt f;
-            bounded-second = second-bounded s lt f;
-            own = λ a a<. rw (reply-is a a<) (chosen-answers s lt f a a< .0);
-            stays = λ a a<.
-                let k = chosen-answers s lt f a a< in
-                let t = m .next s a (chosen-reply m (numbers m) s a) in
-                let t< = lawful .closed s a (chosen-reply m (numbers m) s a) lt a< (k .0) in
-                let both = and-parts (not (has (covered m) t)) (numbers-kept (m .grade s) (regions.first m s) (regions.second m s) (regions.first m t) (regions.second m t)) (k .1) in
-                rw (reply-is a a<) (subst (StaysOpen (m .grade s) (regions.first m s) (regions.second m s)) (sym (leaf-is t t< ∙ cond-false (has (covered m) t) _ _ (not-true (has (covered m) t) (both .0)))) (numbers-decides (m .grade s) (regions.first m s) (regions.second m s) (regions.first m t) (regions.second m t) .0 (both .1)))
+          bounded-first = first-bounded s lt f;
+          bounded-second = second-bounded s lt f;
+          own = λ a a<. rw (reply-is a a<) (chosen-answers s lt f a a< .0);
+          stays = λ a a<.
+              let k = chosen-answers s lt f a a< in
+              let t = m .next s a (chosen-reply m (numbers m) s a) in
+              let t< = lawful .closed s a (chosen-reply m (numbers m) s a) lt a< (k .0) in
+              let both = and-parts (not (has (covered m) t)) (numbers-kept (m .grade s) (regions.first m s) (regions.second m s) (regions.first m t) (regions.second m t)) (k .1) in
+              rw (reply-is a a<) (subst (StaysOpen (m .grade s) (regions.first m s) (regions.second m s)) (sym (leaf-is t t< ∙ cond-false (has (covered m) t) _ _ (not-true (has (covered m) t) (both .0)))) (numbers-decides (m .grade s) (regions.first m s) (regions.second m s) (regions.first m t) (regions.second m t) .0 (both .1)));
         }
       where
         reply-is : (a : ℕ) → a < m .commands s → reply-at (replies-written m (numbers m) (m .states) replies) s a ≡ chosen-reply m (numbers m) s a
@@ -222,12 +222,12 @@ module _ (m : Arena) (lawful : Lawful m) where
     unfolding L R
     planned-accepted =
         record {
-            enough-leaves = rw (leaves-length m (numbers m) (m .states) leaves) long;
-            enough-replies = rw (replies-length m (numbers m) (m .states) replies) wide;
-            keeps = λ s lt. subst (Keeps m L R s) (sym (leaf-is s lt)) (elim (cases-bool (has (covered m) s)) [
-                inl cov ↦ subst (Keeps m L R s) (sym (cond-true (has (covered m) s) (Covered (chosen-command m (numbers m) s) (regions.rank m s)) (Open (regions.first m s) (regions.second m s)) cov)) (keeps-covered s lt cov)
-                | inr f ↦ subst (Keeps m L R s) (sym (cond-false (has (covered m) s) (Covered (chosen-command m (numbers m) s) (regions.rank m s)) (Open (regions.first m s) (regions.second m s)) f)) (keeps-open s lt f)
-            ])
+          enough-leaves = rw (leaves-length m (numbers m) (m .states) leaves) long;
+          enough-replies = rw (replies-length m (numbers m) (m .states) replies) wide;
+          keeps = λ s lt. subst (Keeps m L R s) (sym (leaf-is s lt)) (elim (cases-bool (has (covered m) s)) [
+            | inl cov ↦ subst (Keeps m L R s) (sym (cond-true (has (covered m) s) (Covered (chosen-command m (numbers m) s) (regions.rank m s)) (Open (regions.first m s) (regions.second m s)) cov)) (keeps-covered s lt cov)
+            | inr f ↦ subst (Keeps m L R s) (sym (cond-false (has (covered m) s) (Covered (chosen-command m (numbers m) s) (regions.rank m s)) (Open (regions.first m s) (regions.second m s)) f)) (keeps-open s lt f)
+          ]);
         }
 
     -- its covered states are the covered part
@@ -235,6 +235,6 @@ module _ (m : Arena) (lawful : Lawful m) where
     unfolding L
     planned-part s lt =
         ap is-covered (leaf-is s lt) ∙ (elim (cases-bool (has (covered m) s)) [
-            inl cov ↦ ap is-covered (cond-true (has (covered m) s) (Covered (chosen-command m (numbers m) s) (regions.rank m s)) (Open (regions.first m s) (regions.second m s)) cov) ∙ sym cov
-            | inr f ↦ ap is-covered (cond-false (has (covered m) s) (Covered (chosen-command m (numbers m) s) (regions.rank m s)) (Open (regions.first m s) (regions.second m s)) f) ∙ sym f
+          | inl cov ↦ ap is-covered (cond-true (has (covered m) s) (Covered (chosen-command m (numbers m) s) (regions.rank m s)) (Open (regions.first m s) (regions.second m s)) cov) ∙ sym cov
+          | inr f ↦ ap is-covered (cond-false (has (covered m) s) (Covered (chosen-command m (numbers m) s) (regions.rank m s)) (Open (regions.first m s) (regions.second m s)) f) ∙ sym f
         ])

@@ -33,7 +33,7 @@ lowest-agree p q zero h = refl
 lowest-agree p q (suc n) h =
     rw (h n (omega arith), lowest-agree p q n (λ k lt. h k (omega arith)), some-agree p q n (λ k lt. h k (omega arith))) refl
 
-count-agree : (p q : ℕ → Bool) (n : ℕ) → ((k : ℕ) → k < n → p k ≡ q k) → count p n ≡ count q n
+pub count-agree : (p q : ℕ → Bool) (n : ℕ) → ((k : ℕ) → k < n → p k ≡ q k) → count p n ≡ count q n
 count-agree p q zero h = refl
 count-agree p q (suc n) h = rw (h n (omega arith), count-agree p q n (λ k lt. h k (omega arith))) refl
 

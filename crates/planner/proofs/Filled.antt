@@ -7,11 +7,13 @@ use mathlib.Core.Path.{_≡_, refl, sym, _∙_, ap}
 use mathlib.Core.Bool.{Bool, true, false, cond, not, _&&_}
 use mathlib.Core.List.{List, _++_}
 use mathlib.Core.Logic.{inl, inr}
-use lib.Dec.{eqb, leb}
+use lib.Dec.{eqb, leb, ltb}
+use Rattle.check.specs.declared.leaves.Counts.{Counts}
+use Rattle.site.specs.Refusals.{unless}
 use lib.ListN.{length, drop}
 use Rattle.std.proofs.shelf.Counted.{getD-map-counting}
 use Rattle.std.proofs.shelf.Lists.{drop-all, append-nil}
-use Rattle.std.proofs.shelf.Tests.{cases-bool, cond-true, cond-false, and-from, le-leb, le-ltb, eq-eqb, ne-eqb}
+use Rattle.std.proofs.shelf.Tests.{cases-bool, cond-true, cond-false, and-from, le-leb, le-ltb, ltb-false, eq-eqb, ne-eqb}
 use Rattle.site.specs.Arena.{Arena, Lawful, graded}
 use Rattle.parts.specs.Lifting.{at, none, unnumbered}
 use Rattle.parts.specs.Rows.{row, first-row, rank-row, second-row, rows-fit, row-after}
@@ -64,3 +66,15 @@ roomy-from m leaves replies work a b c =
 pub roomy-answer : (m : Arena) (leaves replies work : ℕ) → m .states ≤ leaves → 16 * m .states ≤ replies → 4 * m .states ≤ work → Ok (parts-counted (numbers m) (m .states)) ≡ planned-answer m leaves replies work
 roomy-answer m leaves replies work a b c =
     rw (le-ltb leaves (m .states) a, le-ltb replies (16 * m .states) b, le-ltb work (4 * m .states) c) refl
+
+-- an answer with counts means that the slices were long enough
+three : {T : Type 0} (a b c : Bool) (x y z : ℕ) (v k : T) → Ok k ≡ unless a 9 x (unless b 9 y (unless c 9 z (Ok v))) → (a ≡ false) × (b ≡ false) × (c ≡ false)
+three true b c x y z v k e = let no-way : _≡_ {A = ℕ} 0 1 = cc in absurd (omega arith)
+three false true c x y z v k e = let no-way : _≡_ {A = ℕ} 0 1 = cc in absurd (omega arith)
+three false false true x y z v k e = let no-way : _≡_ {A = ℕ} 0 1 = cc in absurd (omega arith)
+three false false false x y z v k e = (refl, refl, refl)
+
+pub answered-roomy : (m : Arena) (leaves replies work : ℕ) (k : Counts) → Ok k ≡ planned-answer m leaves replies work → (m .states ≤ leaves) × (16 * m .states ≤ replies) × (4 * m .states ≤ work)
+answered-roomy m leaves replies work k e =
+    let f = three (ltb leaves (m .states)) (ltb replies (16 * m .states)) (ltb work (4 * m .states)) (m .states) (16 * m .states) (4 * m .states) (parts-counted (numbers m) (m .states)) k e in
+    (ltb-false leaves (m .states) (f .0), ltb-false replies (16 * m .states) (f .1), ltb-false work (4 * m .states) (f .2))

@@ -1,5 +1,6 @@
 pub mod Acceptance
 pub mod Agreed
+pub mod Certified
 pub mod Filled
 pub mod Fills
 pub mod Progress

@@ -28,8 +28,8 @@ module _ (m : Arena) (p : Numbers) where
   replies-length zero replies = refl
   replies-length (suc k) replies =
       elim (cases-bool (p .covered k)) [
-          inl cov ↦ ap length (cond-true (p .covered k) _ _ cov) ∙ replies-length k replies
-          | inr opened ↦ ap length (cond-false (p .covered k) _ _ opened) ∙ (length-laid (16 * k) (chosen-replies m p k) (replies-written m p k replies) ∙ replies-length k replies)
+        | inl cov ↦ ap length (cond-true (p .covered k) _ _ cov) ∙ replies-length k replies
+        | inr opened ↦ ap length (cond-false (p .covered k) _ _ opened) ∙ (length-laid (16 * k) (chosen-replies m p k) (replies-written m p k replies) ∙ replies-length k replies)
       ]
 
   -- the leaf of a state that was written
@@ -37,8 +37,8 @@ module _ (m : Arena) (p : Numbers) where
   leaf-written zero leaves s lt le = absurd (omega arith)
   leaf-written (suc k) leaves s lt le =
       elim (cases-eq s k) [
-          inl e ↦ rw e (getD-set-same (leaves-written m p k leaves) k (chosen-leaf m p k) (Covered 0 0) (rw (leaves-length k leaves) (omega arith)))
-          | inr ne ↦ getD-set-other (leaves-written m p k leaves) k s (chosen-leaf m p k) (Covered 0 0) ne ∙ leaf-written k leaves s (omega arith) (omega arith)
+        | inl e ↦ rw e (getD-set-same (leaves-written m p k leaves) k (chosen-leaf m p k) (Covered 0 0) (rw (leaves-length k leaves) (omega arith)))
+        | inr ne ↦ getD-set-other (leaves-written m p k leaves) k s (chosen-leaf m p k) (Covered 0 0) ne ∙ leaf-written k leaves s (omega arith) (omega arith)
       ]
 
   module _ (lawful : Lawful m) where
@@ -51,20 +51,20 @@ module _ (m : Arena) (p : Numbers) where
     reply-written (suc k) replies s a lt le opened a< =
         let few = lawful .few-commands s in
         elim (cases-eq s k) [
-            inl e ↦
-                let here : p .covered k ≡ false = ap (p .covered) (sym e) ∙ opened in
-                let own : a < m .commands k = rw e at a< in
-                ap (λ i. getD (replies-written m p (suc k) replies) (16 * i + a) 0) e
-                ∙ (ap (λ xs. getD xs (16 * k + a) 0) (cond-false (p .covered k) _ _ here)
-                ∙ (laid-within (16 * k) (chosen-replies m p k) (replies-written m p k replies) a 0 (rw (length-map-counting (chosen-reply m p k) 0 (m .commands k)) own) (rw (replies-length k replies) (omega (arith, replies-few k)))
-                ∙ (getD-map-counting (chosen-reply m p k) 0 (m .commands k) a a 0 own (zero-add a)
-                ∙ ap (λ i. chosen-reply m p i a) (sym e))))
-            | inr ne ↦
-                let lower = reply-written k replies s a (omega arith) (omega arith) opened a< in
-                elim (cases-bool (p .covered k)) [
-                    inl cov ↦ ap (λ xs. getD xs (16 * s + a) 0) (cond-true (p .covered k) _ _ cov) ∙ lower
-                    | inr here ↦
-                        ap (λ xs. getD xs (16 * s + a) 0) (cond-false (p .covered k) _ _ here)
-                        ∙ (laid-before (16 * k) (chosen-replies m p k) (replies-written m p k replies) (16 * s + a) 0 (omega arith) ∙ lower)
-                ]
+          | inl e ↦
+              let here : p .covered k ≡ false = ap (p .covered) (sym e) ∙ opened in
+              let own : a < m .commands k = rw e at a< in
+              ap (λ i. getD (replies-written m p (suc k) replies) (16 * i + a) 0) e
+              ∙ (ap (λ xs. getD xs (16 * k + a) 0) (cond-false (p .covered k) _ _ here)
+              ∙ (laid-within (16 * k) (chosen-replies m p k) (replies-written m p k replies) a 0 (rw (length-map-counting (chosen-reply m p k) 0 (m .commands k)) own) (rw (replies-length k replies) (omega (arith, replies-few k)))
+              ∙ (getD-map-counting (chosen-reply m p k) 0 (m .commands k) a a 0 own (zero-add a)
+              ∙ ap (λ i. chosen-reply m p i a) (sym e))))
+          | inr ne ↦
+              let lower = reply-written k replies s a (omega arith) (omega arith) opened a< in
+              elim (cases-bool (p .covered k)) [
+                | inl cov ↦ ap (λ xs. getD xs (16 * s + a) 0) (cond-true (p .covered k) _ _ cov) ∙ lower
+                | inr here ↦
+                    ap (λ xs. getD xs (16 * s + a) 0) (cond-false (p .covered k) _ _ here)
+                    ∙ (laid-before (16 * k) (chosen-replies m p k) (replies-written m p k replies) (16 * s + a) 0 (omega arith) ∙ lower)
+              ]
         ]

@@ -1,3 +1,4 @@
+pub mod Certificate
 pub mod Choices
 pub mod Planned
 pub mod Rows
