@@ -1,6 +1,8 @@
 pub mod Arena
 pub mod Counting
 pub mod CountingLaws
+pub mod DriftLaws
+pub mod Drifts
 pub mod Fronts
 pub mod Grades
 pub mod Laid

@@ -1,4 +1,6 @@
 // Sites: finite games between a controller and a floor, and the kinds of site that are built from data.
+pub mod drifting;
+pub mod drifts;
 pub mod faults;
 pub mod grades;
 pub mod interface;
