@@ -8,6 +8,7 @@ use crate::drifts::Drift;
 use crate::faults::Fault;
 
 const MOST_STEP: usize = 8;
+
 const MOST_LOSSES: usize = 7;
 
 impl Drift {

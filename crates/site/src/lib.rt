@@ -1,4 +1,5 @@
 // Sites: finite games between a controller and a floor, and the kinds of site that are built from data.
+pub mod drift_site;
 pub mod drifting;
 pub mod drifts;
 pub mod faults;
