@@ -1,6 +1,7 @@
 pub mod Arena
 pub mod Counting
 pub mod CountingLaws
+pub mod Dials
 pub mod DriftLaws
 pub mod Drifts
 pub mod Fronts
@@ -9,3 +10,6 @@ pub mod Laid
 pub mod Refusals
 pub mod TableLaws
 pub mod Tables
+pub mod WatchLaws
+pub mod Watched
+pub mod Watches

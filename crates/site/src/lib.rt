@@ -9,3 +9,5 @@ pub mod making;
 pub mod sheets;
 pub mod table_site;
 pub mod tables;
+pub mod watches;
+pub mod watching;
