@@ -46,13 +46,13 @@ worn-fits m w le =
 
 module _ (m : Arena) (w : Dial) (law : Lawful m) (f : Fair w) where
   -- the state below and the position of a state
-  pub below-low : (s : ℕ) → s < pile-states m w → state-below m w s < m .states
+  pub below-low : (s : ℕ) → s < pile-states m w → state-below w s < m .states
   below-low s lt = div-lt-iff-lt-mul (f .some) .1 lt
 
-  below-past : (s : ℕ) → pile-states m w ≤ s → m .states ≤ state-below m w s
+  below-past : (s : ℕ) → pile-states m w ≤ s → m .states ≤ state-below w s
   below-past s le = le-div-iff-mul-le (f .some) .1 le
 
-  pub position-low : (s : ℕ) → position m w s < w .positions
+  pub position-low : (s : ℕ) → position w s < w .positions
   position-low s = mod-lt s (f .some)
 
   -- a state of the site below in a position of the watch
@@ -60,3 +60,34 @@ module _ (m : Arena) (w : Dial) (law : Lawful m) (f : Fair w) where
   pile-low v p v< p< =
       let up : suc v * w .positions ≤ m .states * w .positions = mul-le-mul-right (w .positions) v< in
       omega (arith, suc-mul v (w .positions))
+
+  -- a move of the state below
+  pub own-turn : (s a b : ℕ) → a < m .commands (state-below w s) → b < m .events (state-below w s) → wearing m w .next s a b ≡ m .next (state-below w s) a b * w .positions + turn w (position w s) (m .grade (state-below w s))
+  own-turn s a b a< b< =
+      cond-true (ltb a (m .commands (state-below w s)) && ltb b (m .events (state-below w s))) _ 0 (and-from _ _ (lt-ltb _ _ a<) (lt-ltb _ _ b<))
+
+  turn-low : (s : ℕ) → turn w (position w s) (m .grade (state-below w s)) < w .positions
+  turn-low s = f .turns-low (position w s) (m .grade (state-below w s)) (position-low s) (law .few-grades (state-below w s))
+
+  pub wearing-lawful : pile-states m w ≤ 8192 → Lawful (wearing m w)
+  wearing-lawful fits =
+      record {
+        inhabited = mul-le-mul (law .inhabited) (f .some);
+        limited = fits;
+        few-grades = λ s. cond-both (ltb s (pile-states m w)) (show w (position w s) (m .grade (state-below w s))) 0 (λ x. x ≤ 2) (λ _. f .shows-low (position w s) (m .grade (state-below w s)) (position-low s) (law .few-grades (state-below w s))) (λ _. omega arith);
+        some-command = λ s lt. law .some-command (state-below w s) (below-low s lt);
+        few-commands = λ s. law .few-commands (state-below w s);
+        some-event = λ s lt. law .some-event (state-below w s) (below-low s lt);
+        few-events = λ s. law .few-events (state-below w s);
+        closed = λ s a b s< a< b<. rw (own-turn s a b a< b<) (pile-low (m .next (state-below w s) a b) _ (law .closed (state-below w s) a b (below-low s s<) a< b<) (turn-low s));
+        no-grade = λ s le. cond-past s (pile-states m w) (show w (position w s) (m .grade (state-below w s))) le;
+        no-commands = λ s le. law .no-commands (state-below w s) (below-past s le);
+        no-events = λ s le. law .no-events (state-below w s) (below-past s le);
+        no-command = λ s a b le. cond-false (ltb a (m .commands (state-below w s)) && ltb b (m .events (state-below w s))) _ 0 (and-left _ _ (le-ltb _ _ le));
+        no-event = λ s a b le. cond-false (ltb a (m .commands (state-below w s)) && ltb b (m .events (state-below w s))) _ 0 (and-right (ltb a (m .commands (state-below w s))) _ (le-ltb _ _ le));
+      }
+
+-- every watch above every lawful site gives a lawful site, and so does a pile of any height
+pub watched-lawful : (m : Arena) (w : Dial) → Lawful m → watch-range w ≡ true → Lawful (watched m w)
+watched-lawful m w law ok =
+    wearing-lawful m (worn m w) law (worn-fair m w (watch-range-is w ok)) (worn-fits m w (law .limited))

@@ -21,25 +21,24 @@ abbrev pub worn : Arena → Dial → Dial
 worn m w = cond (leb (pile-states m w) 8192) w clear
 
 -- state v of the site below with the watch in position p has the number v × m + p
-module _ (m : Arena) (w : Dial) where
-  abbrev pub state-below : ℕ → ℕ
-  state-below s = s / w .positions
+abbrev pub state-below : Dial → ℕ → ℕ
+state-below w s = s / w .positions
 
-  abbrev pub position : ℕ → ℕ
-  position s = s % w .positions
+abbrev pub position : Dial → ℕ → ℕ
+position w s = s % w .positions
 
-  -- the site with a watch that fits: the watch shows a grade in place of the one below and turns by the one below;
-  -- a number out of range is answered by 0
-  abbrev pub wearing : Arena
-  wearing =
-      record {
-        states = pile-states m w;
-        grade = λ s. cond (ltb s (pile-states m w)) (show w (position s) (m .grade (state-below s))) 0;
-        commands = λ s. m .commands (state-below s);
-        events = λ s. m .events (state-below s);
-        next = λ s a b.
-            cond (ltb a (m .commands (state-below s)) && ltb b (m .events (state-below s))) (m .next (state-below s) a b * w .positions + turn w (position s) (m .grade (state-below s))) 0;
-      }
+-- the site with a watch that fits: the watch shows a grade in place of the one below and turns by the one below;
+-- a number out of range is answered by 0
+abbrev pub wearing : Arena → Dial → Arena
+wearing m w =
+    record {
+      states = pile-states m w;
+      grade = λ s. cond (ltb s (pile-states m w)) (show w (position w s) (m .grade (state-below w s))) 0;
+      commands = λ s. m .commands (state-below w s);
+      events = λ s. m .events (state-below w s);
+      next = λ s a b.
+          cond (ltb a (m .commands (state-below w s)) && ltb b (m .events (state-below w s))) (m .next (state-below w s) a b * w .positions + turn w (position w s) (m .grade (state-below w s))) 0;
+    }
 
 -- the site that a watch above a site stands for
 abbrev pub watched : Arena → Dial → Arena
