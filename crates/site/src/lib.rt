@@ -1,4 +1,5 @@
 // Sites: finite games between a controller and a floor, and the kinds of site that are built from data.
+pub mod dials;
 pub mod drift_site;
 pub mod drifting;
 pub mod drifts;
@@ -6,6 +7,7 @@ pub mod faults;
 pub mod grades;
 pub mod interface;
 pub mod making;
+pub mod piles;
 pub mod sheets;
 pub mod table_site;
 pub mod tables;

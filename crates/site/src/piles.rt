@@ -1,0 +1,41 @@
+// A watch above a site, and the question whether it fits.
+ghost use mathlib.Core.Path.{_≡_};
+ghost use Rattle.site.specs.Dials.{dial};
+ghost use Rattle.site.specs.Refusals.{answered};
+ghost use Rattle.site.specs.Watched.{fitted, worn as wearing};
+use crate::faults::Fault;
+use crate::interface::Site;
+use crate::watches::Watch;
+
+const MOST_STATES: usize = 8192;
+
+// A site with a watch above it, which is a site again and may carry another watch.
+#[derive(Drop)]
+pub struct Watched<S> {
+    pub(crate) below: S,
+    pub(crate) watch: Watch,
+}
+
+// Whether a watch fits above a site: how many states they have together.
+pub fn fits<S: Site>(site: &S, watch: &Watch) -> Result<usize, Fault>
+    ensures { λ r. ⌜ answered r ≡ fitted (S·Site .arena (now (site .entry))) (dial (now (watch .entry))) ⌝ }
+{
+    let states = site.states() * watch.positions;
+    if states <= MOST_STATES {
+        Ok(states)
+    } else {
+        Err(Fault::WatchFit { states })
+    }
+}
+
+impl<S: Site> Watched<S> {
+    // The watch that the site wears: a clear one in place of one that does not fit.
+    pub(crate) fn worn(&self) -> Watch
+        ensures { λ r. ⌜ dial r ≡ wearing (S·Site .arena (now (self .entry) .below)) (dial (now (self .entry) .watch)) ⌝ }
+    {
+        match fits(&self.below, &self.watch) {
+            Ok(_) => self.watch,
+            Err(_) => Watch::new(),
+        }
+    }
+}
