@@ -7,7 +7,7 @@ use mathlib.Core.Logic.{inl, inr}
 use lib.Dec.{leb, ltb}
 use Rattle.std.proofs.shelf.Tests.{cond-false, lt-leb, le-ltb, cases-lt}
 use Rattle.std.specs.declared.result.Result.the-variants.{Ok, Err}
-use Rattle.site.specs.Arena.{Arena}
+use Rattle.site.specs.Arena.{Arena, Lawful}
 use Rattle.site.specs.Refusals.{Refusal, refuse}
 use Rattle.site.specs.Watched.{pile-states, fitted, worn}
 use Rattle.site.specs.Watches.{Dial, clear}
@@ -21,4 +21,18 @@ refused-clear m w e h =
           let ok : Err e ≡ Ok (pile-states m w) = h ∙ cond-false (ltb 8192 (pile-states m w)) (refuse 19 (pile-states m w)) (Ok (pile-states m w)) (le-ltb 8192 (pile-states m w) low) in
           let z : _≡_ {A = ℕ} 0 1 = cc in
           absurd (omega arith)
+    ]
+
+-- every answer to `next` is small
+pub next-low : (m : Arena) → Lawful m → (s a b : ℕ) → m .next s a b ≤ 8192
+next-low m law s a b =
+    elim (cases-lt a (m .commands s)) [
+      | inr none ↦ omega (arith, law .no-command s a b none)
+      | inl a< ↦ elim (cases-lt b (m .events s)) [
+        | inr none ↦ omega (arith, law .no-event s a b none)
+        | inl b< ↦ elim (cases-lt s (m .states)) [
+          | inl s< ↦ omega (arith, law .limited, law .closed s a b s< a< b<)
+          | inr past ↦ absurd (omega (arith, law .no-commands s past))
+        ]
+      ]
     ]

@@ -7,6 +7,7 @@ pub mod faults;
 pub mod grades;
 pub mod interface;
 pub mod making;
+pub mod pile_site;
 pub mod piles;
 pub mod sheets;
 pub mod table_site;

@@ -13,7 +13,32 @@ const MOST_POSITIONS: usize = 8;
 const MOST_GRADE: u8 = 2;
 
 // What the clear watch shows: each grade as it is. Entries past the third are not read.
-const CLEAR_SHOWS: [u8; 24] = [0, 1, 2, 0, 0, 0, 0, 0, 0, 0, 0, 0, 0, 0, 0, 0, 0, 0, 0, 0, 0, 0, 0, 0];
+const CLEAR_SHOWS: [u8; 24] = [
+    0,
+    1,
+    2,
+    0,
+    0,
+    0,
+    0,
+    0,
+    0,
+    0,
+    0,
+    0,
+    0,
+    0,
+    0,
+    0,
+    0,
+    0,
+    0,
+    0,
+    0,
+    0,
+    0,
+    0,
+];
 
 // Whether a watch of these entries is in range.
 fn in_range(positions: usize, turns: &[u8; 24], shows: &[u8; 24]) -> bool
