@@ -7,6 +7,7 @@ pub mod Drifts
 pub mod Fronts
 pub mod Grades
 pub mod Laid
+pub mod Piles
 pub mod Refusals
 pub mod TableLaws
 pub mod Tables

@@ -66,7 +66,7 @@ module _ (m : Arena) (w : Dial) (law : Lawful m) (f : Fair w) where
   own-turn s a b a< b< =
       cond-true (ltb a (m .commands (state-below w s)) && ltb b (m .events (state-below w s))) _ 0 (and-from _ _ (lt-ltb _ _ a<) (lt-ltb _ _ b<))
 
-  turn-low : (s : ℕ) → turn w (position w s) (m .grade (state-below w s)) < w .positions
+  pub turn-low : (s : ℕ) → turn w (position w s) (m .grade (state-below w s)) < w .positions
   turn-low s = f .turns-low (position w s) (m .grade (state-below w s)) (position-low s) (law .few-grades (state-below w s))
 
   pub wearing-lawful : pile-states m w ≤ 8192 → Lawful (wearing m w)
