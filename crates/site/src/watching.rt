@@ -12,34 +12,6 @@ const MOST_POSITIONS: usize = 8;
 
 const MOST_GRADE: u8 = 2;
 
-// What the clear watch shows: each grade as it is. Entries past the third are not read.
-const CLEAR_SHOWS: [u8; 24] = [
-    0,
-    1,
-    2,
-    0,
-    0,
-    0,
-    0,
-    0,
-    0,
-    0,
-    0,
-    0,
-    0,
-    0,
-    0,
-    0,
-    0,
-    0,
-    0,
-    0,
-    0,
-    0,
-    0,
-    0,
-];
-
 // Whether a watch of these entries is in range.
 fn in_range(positions: usize, turns: &[u8; 24], shows: &[u8; 24]) -> bool
     ensures { λ r. ⌜ r ≡ watch-range (entries positions (now (turns .entry)) (now (shows .entry))) ⌝ }
@@ -62,10 +34,13 @@ impl Watch {
     pub fn new() -> Watch
         ensures { λ r. ⌜ dial r ≡ clear ⌝ }
     {
+        let mut shows = [0; 24];
+        shows[1] = 1;
+        shows[2] = 2;
         Watch {
             positions: 1,
             turns: [0; 24],
-            shows: CLEAR_SHOWS,
+            shows,
         }
     }
 
