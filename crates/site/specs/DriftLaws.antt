@@ -11,7 +11,7 @@ use lib.Signed.{leZ}
 use Rattle.std.proofs.shelf.Tests.{and-parts, leb-true, ltb-true, cond-true, cond-false, cond-both, lt-ltb, le-ltb, cases-lt, and-from, and-left, and-right}
 use Rattle.std.proofs.shelf.Signed.{ints}
 use Rattle.site.specs.Arena.{Lawful}
-use Rattle.site.specs.Drifts.{farthest, offsets, drift-range, Place, offset, apart, confirmed, place-grade, place-number, numbered, agrees, arrived, drifted, lost, commanded, moved, drift-states, drift}
+use Rattle.site.specs.Drifts.{farthest, offsets, drift-range, Place, offset, apart, confirmed, place-grade, place-number, numbered, agrees, arrived, drifted, lost, commanded, moved, drift-states, drift, Kept}
 use Rattle.site.specs.TableLaws.{cond-past, cond-within}
 
 -- what a setting in range is
@@ -28,12 +28,6 @@ offset-low o h =
     let low : leZ (negℤ (pos farthest)) o ≡ true = p .0 in
     let high : leZ o (pos farthest) ≡ true = p .1 in
     omega (arith, ints)
-
--- a place of the site: its offset agrees, and no more are lost than the bound
-abbrev pub Kept : ℕ → Place → Type 0
-Kept k (offset o l) = (agrees o ≡ true) × (l ≤ k)
-Kept k apart = Unit {0}
-Kept k confirmed = Unit {0}
 
 module _ (d k : ℕ) where
   pub kept-below : (p : Place) → Kept k p → place-number k p < drift-states k

@@ -1,6 +1,7 @@
 -- What a drift site means: a clock that drifts, and settings of it that may be lost.
-use Prim.Native.Nat.{ℕ, zero, suc, _+_, _*_, _/_, _%_}
-use mathlib.Core.Bool.{Bool, cond, _&&_}
+use Prim.Native.Nat.{ℕ, zero, suc, _+_, _*_, _/_, _%_, _<_, _≤_}
+use mathlib.Core.Bool.{Bool, true, cond, _&&_}
+use mathlib.Core.Path.{_≡_}
 use lib.Dec.{eqb, leb, ltb}
 use lib.IntN.{ℤ, pos, negℤ, natAbs, _+ℤ_, _-ℤ_, _*ℤ_}
 use lib.Signed.{leZ}
@@ -83,3 +84,16 @@ drift d k =
       next = λ s a b.
           cond (ltb s (drift-states k) && (ltb a 2 && ltb b 6)) (place-number k (moved d k a b (numbered k s))) 0;
     }
+
+-- a place of the site: its offset agrees, and no more are lost than the bound
+abbrev pub Kept : ℕ → Place → Type 0
+Kept k (offset o l) = (agrees o ≡ true) × (l ≤ k)
+Kept k apart = Unit {0}
+Kept k confirmed = Unit {0}
+
+-- the site told by places: each state is the number of a place, which has the place's grade and moves as the place does
+pub record ByPlaces (d k : ℕ) : Type 0 where
+  pub state : (s : ℕ) → s < drift-states k → (p : Place) × (Kept k p × (place-number k p ≡ s))
+  pub low : (p : Place) → Kept k p → place-number k p < drift-states k
+  pub grade : (p : Place) → Kept k p → drift d k .grade (place-number k p) ≡ place-grade p
+  pub next : (p : Place) (a b : ℕ) → Kept k p → a < 2 → b < 6 → drift d k .next (place-number k p) a b ≡ place-number k (moved d k a b p)
