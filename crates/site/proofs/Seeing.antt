@@ -11,7 +11,7 @@ use lib.Dec.{leb, ltb}
 use lib.ListN.{getD}
 use Rattle.std.proofs.shelf.Tests.{cond-true, cond-false, cond-both, lt-ltb, le-ltb, lt-leb, cases-lt, and-left, and-right}
 use Rattle.site.specs.Arena.{Arena, Lawful}
-use Rattle.site.specs.Piles.{Alike, Clear, ClearChangesNothing, UnfitChangesNothing, SameEntries, OwnEntriesCount, ByPairs, Leads, Run, RunsAreBelow}
+use Rattle.site.specs.Piles.{Alike, Clear, ClearChangesNothing, UnfitChangesNothing, SameEntries, OwnEntriesCount, ByPairs, Leads, Run, RunsAreBelow, RunsAreSeen}
 use Rattle.site.specs.Watched.{pile-states, state-below, position, worn, wearing, watched}
 use Rattle.site.specs.Watches.{Dial, turn, show, watch-range, clear}
 use Rattle.site.specs.WatchLaws.{Fair, watch-range-is, clear-fair, worn-fair, below-low, position-low, pile-low, own-turn, turn-low}
@@ -92,6 +92,20 @@ module _ (m : Arena) (w : Dial) (law : Lawful m) (f : Fair w) where
   run-below t (s ∷ ss) (move, h) =
       ((move .0, (move .1 .0, (move .1 .1 .0, (move .1 .1 .1 .0, ap (state-below w) (move .1 .1 .1 .1) ∙ move-below s (move .0) (move .1 .0) (move .1 .1 .0) (move .1 .1 .1 .0))))), run-below s ss h)
 
+  run-seen : (t : ℕ) (ss : List ℕ) → Run m t ss → (u : ℕ) × ((us : List ℕ) × (Run (wearing m w) u us × ((state-below w u ≡ t) × (map (state-below w) us ≡ ss))))
+  run-seen t [] h =
+      (t * w .positions + 0, ([], (pile-low m w law f t 0 h (f .some), (digits-div t (f .some), refl))))
+  run-seen t (s ∷ ss) (move, h) =
+      let r = run-seen s ss h in
+      let u = r .0 in
+      let at-s = r .1 .1 .1 .0 in
+      let a = move .0 in
+      let b = move .1 .0 in
+      let a< : a < m .commands (state-below w u) = rw at-s (move .1 .1 .0) in
+      let b< : b < m .events (state-below w u) = rw at-s (move .1 .1 .1 .0) in
+      let here : state-below w (wearing m w .next u a b) ≡ t = move-below u a b a< b< ∙ (ap (λ v. m .next v a b) at-s ∙ sym (move .1 .1 .1 .1)) in
+      (wearing m w .next u a b, (u ∷ r .1 .0, (((a, (b, (a<, (b<, refl)))), r .1 .1 .0), (here, ap (λ v. v ∷ map (state-below w) (r .1 .0)) at-s ∙ ap (λ vs. s ∷ vs) (r .1 .1 .1 .1)))))
+
 module _ (m : Arena) (w x : Dial) (law : Lawful m) (f : Fair w) (same : SameEntries w x) where
   -- the entries that a state reads are among those of the positions
   entry-low : (s : ℕ) → position w s * 3 + m .grade (state-below w s) < 3 * w .positions
@@ -139,3 +153,7 @@ module _ (m : Arena) (w : Dial) (law : Lawful m) (ok : watch-range w ≡ true) w
   own-entries-count x same =
       let worn-same : SameEntries (worn m w) (worn m x) = subst (λ (b : Bool). SameEntries (worn m w) (cond b x clear)) (ap (λ n. leb (m .states * n) 8192) (same .0)) (same-either (leb (pile-states m w) 8192) w x same) in
       same-wearing m (worn m w) (worn m x) law fair worn-same
+
+  -- and a run of the site below is seen as a run of the pile
+  pub runs-are-seen : RunsAreSeen m w
+  runs-are-seen = run-seen m (worn m w) law fair

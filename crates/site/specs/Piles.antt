@@ -61,3 +61,8 @@ Run m t (s ∷ ss) = Leads m s t × Run m s ss
 abbrev pub RunsAreBelow : Arena → Dial → Type 0
 RunsAreBelow m w =
     (t : ℕ) (ss : List ℕ) → Run (watched m w) t ss → Run m (state-below (worn m w) t) (map (state-below (worn m w)) ss)
+
+-- and every run of the site below is seen so: a watch forbids nothing
+abbrev pub RunsAreSeen : Arena → Dial → Type 0
+RunsAreSeen m w =
+    (t : ℕ) (ss : List ℕ) → Run m t ss → (u : ℕ) × ((us : List ℕ) × (Run (watched m w) u us × ((state-below (worn m w) u ≡ t) × (map (state-below (worn m w)) us ≡ ss))))

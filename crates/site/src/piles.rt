@@ -2,7 +2,7 @@
 ghost use mathlib.Core.Path.{_≡_};
 ghost use Rattle.site.specs.Dials.{dial};
 ghost use Rattle.site.specs.Refusals.{answered};
-ghost use Rattle.site.specs.Piles.{ByPairs, RunsAreBelow, ClearChangesNothing, UnfitChangesNothing, OwnEntriesCount};
+ghost use Rattle.site.specs.Piles.{ByPairs, RunsAreBelow, RunsAreSeen, ClearChangesNothing, UnfitChangesNothing, OwnEntriesCount};
 ghost use Rattle.site.specs.Watched.{fitted, worn as wearing, watched};
 use crate::faults::Fault;
 use crate::interface::Site;
@@ -31,12 +31,13 @@ pub fn fits<S: Site>(site: &S, watch: &Watch) -> Result<usize, Fault>
 
 impl<S: Site> Watched<S> {
     // Sets a watch above a site. Together they are told by pairs of a state and a position, and their
-    // runs are runs of the site; a watch that is clear, or does not fit, changes nothing.
+    // runs are those of the site; a watch that is clear, or does not fit, changes nothing.
     pub fn new(site: S, watch: Watch) -> Watched<S>
         ensures below { λ r. ⌜ r .below ≡ site ⌝ }
         ensures watch { λ r. ⌜ dial (r .watch) ≡ dial watch ⌝ }
         ensures pairs { λ _. ⌜ ByPairs (S·Site .arena site) (wearing (S·Site .arena site) (dial watch)) (watched (S·Site .arena site) (dial watch)) ⌝ }
         ensures runs { λ _. ⌜ RunsAreBelow (S·Site .arena site) (dial watch) ⌝ }
+        ensures seen { λ _. ⌜ RunsAreSeen (S·Site .arena site) (dial watch) ⌝ }
         ensures clear { λ _. ⌜ ClearChangesNothing (S·Site .arena site) (dial watch) ⌝ }
         ensures unfit { λ _. ⌜ UnfitChangesNothing (S·Site .arena site) (dial watch) ⌝ }
         ensures entries { λ _. ⌜ OwnEntriesCount (S·Site .arena site) (dial watch) ⌝ }

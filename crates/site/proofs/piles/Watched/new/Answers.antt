@@ -1,6 +1,6 @@
 use mathlib.Core.Path.{refl}
 use Rattle.site.specs.Dials.{dial}
-use Rattle.site.proofs.Seeing.{worn-by-pairs, runs-are-below, clear-changes-nothing, unfit-changes-nothing, own-entries-count}
+use Rattle.site.proofs.Seeing.{worn-by-pairs, runs-are-below, runs-are-seen, clear-changes-nothing, unfit-changes-nothing, own-entries-count}
 use Rattle.site.proofs.piles.Watched.new.Needs as need
 
 pub returns : need.returns
@@ -14,6 +14,7 @@ returns g c =
       watch = refl;
       pairs = worn-by-pairs m w law ok;
       runs = runs-are-below m w law ok;
+      seen = runs-are-seen m w law ok;
       clear = clear-changes-nothing m w law ok;
       unfit = unfit-changes-nothing m w law ok;
       entries = own-entries-count m w law ok;
