@@ -3,15 +3,15 @@ use Prim.Native.Nat.{ℕ, zero, suc, _+_, _-_, _*_, _/_, _%_, _<_, _≤_}
 use native.Mathlib.Nat.{mod-lt, div-add-mod'}
 use native.Mathlib.Omega.{arith}
 use mathlib.Core.Path.{_≡_, refl, sym, _∙_, ap}
-use mathlib.Core.Bool.{Bool, true, false, cond, _&&_}
-use mathlib.Core.Logic.{_⊎_, inl, inr}
+use mathlib.Core.Bool.{true, false}
+use mathlib.Core.Logic.{inl, inr}
 use lib.Arith.{digits-lt, digits-div, digits-mod}
 use lib.Dec.{eqb, ltb}
 use lib.IntN.{ℤ, pos, negℤ, natAbs, _+ℤ_, _-ℤ_, _*ℤ_}
 use lib.Signed.{leZ}
 use Rattle.std.proofs.shelf.Tests.{and-parts, cases-eq, cases-lt, cond-true, cond-false, lt-ltb, le-ltb, eq-eqb, ne-eqb, and-from, and-left, and-right}
 use Rattle.std.proofs.shelf.Signed.{ints}
-use Rattle.site.specs.Drifts.{farthest, offsets, Place, offset, apart, confirmed, place-grade, place-number, numbered, agrees, arrived, drifted, moved, drift-states, drift, Kept, ByPlaces}
+use Rattle.site.specs.Drifts.{farthest, offsets, Place, offset, apart, confirmed, place-grade, place-number, numbered, agrees, arrived, drifted, moved, drift-states, Kept, ByPlaces}
 use Rattle.site.specs.DriftLaws.{offset-low, kept-below, kept-numbered, own-move}
 
 -- the clock moved by a step back, none or one on

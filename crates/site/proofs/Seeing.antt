@@ -8,13 +8,12 @@ use mathlib.Core.List.{List, [], _∷_, map}
 use mathlib.Core.Logic.{inl, inr}
 use lib.Arith.{digits-div, digits-mod}
 use lib.Dec.{leb, ltb}
-use lib.ListN.{getD}
 use Rattle.std.proofs.shelf.Tests.{cond-true, cond-false, cond-both, lt-ltb, le-ltb, lt-leb, cases-lt, and-left, and-right}
 use Rattle.site.specs.Arena.{Arena, Lawful}
-use Rattle.site.specs.Piles.{Alike, Clear, ClearChangesNothing, UnfitChangesNothing, SameEntries, OwnEntriesCount, ByPairs, Leads, Run, RunsAreBelow, RunsAreSeen}
+use Rattle.site.specs.Piles.{Alike, Clear, ClearChangesNothing, UnfitChangesNothing, SameEntries, OwnEntriesCount, ByPairs, Run, RunsAreBelow, RunsAreSeen}
 use Rattle.site.specs.Watched.{pile-states, state-below, position, worn, wearing, watched}
 use Rattle.site.specs.Watches.{Dial, turn, show, watch-range, clear}
-use Rattle.site.specs.WatchLaws.{Fair, watch-range-is, clear-fair, worn-fair, below-low, position-low, pile-low, own-turn, turn-low}
+use Rattle.site.specs.WatchLaws.{Fair, watch-range-is, worn-fair, below-low, position-low, pile-low, own-turn, turn-low}
 
 clear-clear : Clear clear
 clear-clear = (refl, shown)

@@ -1,8 +1,7 @@
 -- Which watch a site wears.
 use Prim.Native.Nat.{ℕ, _<_, _≤_}
 use native.Mathlib.Omega.{arith}
-use mathlib.Core.Path.{_≡_, refl, sym, _∙_, ap}
-use mathlib.Core.Bool.{true, false, cond}
+use mathlib.Core.Path.{_≡_, _∙_}
 use mathlib.Core.Logic.{inl, inr}
 use lib.Dec.{leb, ltb}
 use Rattle.std.proofs.shelf.Tests.{cond-false, lt-leb, le-ltb, cases-lt}

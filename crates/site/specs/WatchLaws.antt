@@ -1,12 +1,12 @@
 -- Laws of watches: above every lawful site, every watch gives a lawful site.
-use Prim.Native.Nat.{ℕ, zero, suc, _+_, _*_, _/_, _%_, _<_, _≤_}
+use Prim.Native.Nat.{ℕ, suc, _+_, _*_, _<_, _≤_}
 use native.Mathlib.Nat.{mul-le-mul, mul-le-mul-right, suc-mul, mod-lt, div-lt-iff-lt-mul, le-div-iff-mul-le}
 use native.Mathlib.Omega.{arith}
-use mathlib.Core.Path.{_≡_, refl, sym, _∙_, ap}
-use mathlib.Core.Bool.{Bool, true, false, cond, _&&_}
+use mathlib.Core.Path.{_≡_, refl}
+use mathlib.Core.Bool.{true, _&&_}
 use lib.Dec.{leb, ltb}
 use lib.ListN.{getD}
-use Rattle.std.proofs.shelf.Tests.{and-parts, leb-true, ltb-true, leb-false, cond-true, cond-false, cond-both, lt-ltb, le-ltb, and-from, and-left, and-right}
+use Rattle.std.proofs.shelf.Tests.{and-parts, leb-true, ltb-true, cond-true, cond-false, cond-both, lt-ltb, le-ltb, and-from, and-left, and-right}
 use Rattle.site.specs.Arena.{Arena, Lawful}
 use Rattle.site.specs.Counting.{every}
 use Rattle.site.specs.CountingLaws.{every-at}

@@ -2,7 +2,7 @@
 ghost use mathlib.Core.Path.{_≡_};
 ghost use Prim.Native.Nat.{_+_, _*_, _<_, _≤_};
 ghost use lib.IntN.{pos, _-ℤ_};
-ghost use Rattle.site.specs.Drifts.{farthest, offsets, drift-states, drift, place-number, arrived as arriving, drifted, commanded, confirmed as confirmation};
+ghost use Rattle.site.specs.Drifts.{farthest, offsets, drift, place-number, arrived as arriving, drifted, commanded};
 ghost use Rattle.site.specs.DriftLaws.{drift-lawful};
 use crate::drifts::Drift;
 use crate::grades::Grade;

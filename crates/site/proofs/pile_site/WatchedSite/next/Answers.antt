@@ -1,6 +1,5 @@
 use Prim.Native.Nat.{_*_, _/_, _≤_}
 use native.Mathlib.Nat.{mul-le-mul}
-use native.Mathlib.Omega.{arith}
 use borrow.Author.Needs.{needs}
 use Rattle.site.specs.Dials.{dial}
 use Rattle.site.specs.WatchLaws.{watch-range-is}

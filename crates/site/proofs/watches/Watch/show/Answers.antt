@@ -1,5 +1,4 @@
 use native.Mathlib.Omega.{arith}
-use mathlib.Core.Path.{ap}
 use Rattle.site.specs.Dials.{dial}
 use Rattle.site.specs.Grades.{grade-number}
 use Rattle.site.specs.TableLaws.{grade-few}
