@@ -12,12 +12,14 @@ pub impl<S: Site> Site for Watched<S> as WatchedSite {
     ghost lawful = { λ t. watched-lawful (S·Site .arena (t .below)) (dial (t .watch)) (S·Site .lawful (t .below)) (t .watch .ok) };
 
     fn states(&self) -> usize {
-        self.below.states() * self.worn().positions
+        let states = self.below.states();
+        states * self.worn(states).positions
     }
 
     fn grade(&self, s: usize) -> Grade {
-        let watch = self.worn();
-        if s >= self.below.states() * watch.positions {
+        let states = self.below.states();
+        let watch = self.worn(states);
+        if s >= states * watch.positions {
             return Grade::Confirmed;
         }
         let below = self.below.grade(s / watch.positions);
@@ -25,15 +27,17 @@ pub impl<S: Site> Site for Watched<S> as WatchedSite {
     }
 
     fn commands(&self, s: usize) -> usize {
-        self.below.commands(s / self.worn().positions)
+        let watch = self.worn(self.below.states());
+        self.below.commands(s / watch.positions)
     }
 
     fn events(&self, s: usize) -> usize {
-        self.below.events(s / self.worn().positions)
+        let watch = self.worn(self.below.states());
+        self.below.events(s / watch.positions)
     }
 
     fn next(&self, s: usize, a: usize, b: usize) -> usize {
-        let watch = self.worn();
+        let watch = self.worn(self.below.states());
         let v = s / watch.positions;
         if a >= self.below.commands(v) || b >= self.below.events(v) {
             return 0;

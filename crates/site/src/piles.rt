@@ -45,13 +45,15 @@ impl<S: Site> Watched<S> {
         Watched { below: site, watch }
     }
 
-    // The watch that the site wears: a clear one in place of one that does not fit.
-    pub(crate) fn worn(&self) -> Watch
+    // The watch that the site below wears, which has so many states: a clear one in place of one that
+    // does not fit. The caller asks for the states once, so that a high pile stays cheap.
+    pub(crate) fn worn(&self, states: usize) -> Watch
+        requires { ⌜ states ≡ S·Site .arena (now self .below) .states ⌝ }
         ensures { λ r. ⌜ dial r ≡ wearing (S·Site .arena (now (self .entry) .below)) (dial (now (self .entry) .watch)) ⌝ }
     {
-        match fits(&self.below, &self.watch) {
-            Ok(_) => self.watch,
-            Err(_) => Watch::new(),
+        if states * self.watch.positions > MOST_STATES {
+            return Watch::new();
         }
+        self.watch
     }
 }

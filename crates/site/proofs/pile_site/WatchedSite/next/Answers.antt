@@ -3,7 +3,7 @@ use native.Mathlib.Nat.{mul-le-mul}
 use borrow.Author.Needs.{needs}
 use Rattle.site.specs.Dials.{dial}
 use Rattle.site.specs.WatchLaws.{watch-range-is}
-use Rattle.site.proofs.Wearing.{next-low}
+use Rattle.site.proofs.Bounds.{next-low}
 use Rattle.site.proofs.pile_site.WatchedSite.next.Needs as need
 
 pub add-result : need.add-result
