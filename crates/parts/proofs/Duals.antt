@@ -69,11 +69,11 @@ module _ (m : Arena) (lawful : Lawful m) where
   pub F-dual : (X Y Z : Region) → other (m .states) (F m X Y Z) ≡ G m (other (m .states) X) (other (m .states) Y) (other (m .states) Z)
   F-dual X Y Z =
       region-same (m .states) _ _ (λ s s<.
-      ap not (region-has (m .states) _ s s<)
-      ∙ (not-by-grade (m .grade s) (holds m (has X) s) (holds m (has Y) s) (holds m (has Z) s)
-      ∙ (ap (λ b. by-grade (m .grade s) b (not (holds m (has Y) s)) (not (holds m (has Z) s))) (not-holds X s s<)
-      ∙ (ap (λ b. by-grade (m .grade s) (blocks m (has (other (m .states) X)) s) b (not (holds m (has Z) s))) (not-holds Y s s<)
-      ∙ ap (by-grade (m .grade s) (blocks m (has (other (m .states) X)) s) (blocks m (has (other (m .states) Y)) s)) (not-holds Z s s<)))))
+          ap not (region-has (m .states) _ s s<)
+          ∙ (not-by-grade (m .grade s) (holds m (has X) s) (holds m (has Y) s) (holds m (has Z) s)
+          ∙ (ap (λ b. by-grade (m .grade s) b (not (holds m (has Y) s)) (not (holds m (has Z) s))) (not-holds X s s<)
+          ∙ (ap (λ b. by-grade (m .grade s) (blocks m (has (other (m .states) X)) s) b (not (holds m (has Z) s))) (not-holds Y s s<)
+          ∙ ap (by-grade (m .grade s) (blocks m (has (other (m .states) X)) s) (blocks m (has (other (m .states) Y)) s)) (not-holds Z s s<)))))
 
 -- operators that the complement turns into each other, step by step
 iterate-dual : (n : ℕ) (f g : Region → Region) → ((U : Region) → other n (f U) ≡ g (other n U)) → (k : ℕ) (U : Region) → other n (iterate k f U) ≡ iterate k g (other n U)
@@ -102,7 +102,7 @@ module _ (m : Arena) (lawful : Lawful m) where
   pub limit-dual : (U : Region) → other (m .states) (limit m U) ≡ greatest (m .states) (λ Y. least (m .states) (G m (other (m .states) U) Y))
   limit-dual U =
       least-dual (m .states) (λ Y. greatest (m .states) (F m U Y)) (λ Y. least (m .states) (G m (other (m .states) U) Y)) (λ Y.
-      greatest-dual (m .states) (F m U Y) (G m (other (m .states) U) (other (m .states) Y)) (F-dual m lawful U Y))
+          greatest-dual (m .states) (F m U Y) (G m (other (m .states) U) (other (m .states) Y)) (F-dual m lawful U Y))
 
   -- the stages are what the phases have taken out
   pub stage-is : (i : ℕ) → stage m i ≡ other (m .states) (remain m i)

@@ -21,8 +21,8 @@ pub some-one : (p : ℕ → Bool) (n : ℕ) → some p n ≡ true → (k : ℕ) 
 some-one p zero h = absurd (false≢true h)
 some-one p (suc n) h =
     elim (or-cases (p n) (some p n) h) [
-      | inl t ↦ (n, omega arith, t)
-      | inr t ↦ let w = some-one p n t in (w .0, omega (arith, w .1), w .2)
+        inl t ↦ (n, omega arith, t)
+        | inr t ↦ let w = some-one p n t in (w .0, omega (arith, w .1), w .2)
     ]
 
 module _ (m : Arena) (U : ℕ → Bool) (s : ℕ) where
@@ -86,27 +86,27 @@ module _ (m : Arena) where
   pub levels-grow : (X : Region) → Growing (m .states) (λ Y. greatest (m .states) (F m X Y))
   levels-grow X =
       record {
-        size = λ Y. greatest-size (m .states) (F m X Y) (F-grows X Y);
-        mono = λ Y Y′ y. greatest-mono (m .states) (F m X Y) (F m X Y′) (F-grows X Y) (F-grows X Y′) (λ Z. F-mono X Y Z X Y′ Z (same X) y (same Z));
+          size = λ Y. greatest-size (m .states) (F m X Y) (F-grows X Y);
+          mono = λ Y Y′ y. greatest-mono (m .states) (F m X Y) (F m X Y′) (F-grows X Y) (F-grows X Y′) (λ Z. F-mono X Y Z X Y′ Z (same X) y (same Z))
       }
 
   pub covers-grow : Growing (m .states) (λ X. least (m .states) (λ Y. greatest (m .states) (F m X Y)))
   covers-grow =
       record {
-        size = λ X. least-size (m .states) _ (levels-grow X);
-        mono = λ X X′ x. least-mono (m .states) _ _ (levels-grow X) (levels-grow X′) (λ Y. greatest-mono (m .states) (F m X Y) (F m X′ Y) (F-grows X Y) (F-grows X′ Y) (λ Z. F-mono X Y Z X′ Y Z x (same Y) (same Z)));
+          size = λ X. least-size (m .states) _ (levels-grow X);
+          mono = λ X X′ x. least-mono (m .states) _ _ (levels-grow X) (levels-grow X′) (λ Y. greatest-mono (m .states) (F m X Y) (F m X′ Y) (F-grows X Y) (F-grows X′ Y) (λ Z. F-mono X Y Z X′ Y Z x (same Y) (same Z)))
       }
 
   pub rounds-grow : (X : Region) → Growing (m .states) (λ Y. least (m .states) (G m X Y))
   rounds-grow X =
       record {
-        size = λ Y. least-size (m .states) (G m X Y) (G-grows X Y);
-        mono = λ Y Y′ y. least-mono (m .states) (G m X Y) (G m X Y′) (G-grows X Y) (G-grows X Y′) (λ Z. G-mono X Y Z X Y′ Z (same X) y (same Z));
+          size = λ Y. least-size (m .states) (G m X Y) (G-grows X Y);
+          mono = λ Y Y′ y. least-mono (m .states) (G m X Y) (G m X Y′) (G-grows X Y) (G-grows X Y′) (λ Z. G-mono X Y Z X Y′ Z (same X) y (same Z))
       }
 
   pub stages-grow : Growing (m .states) (λ X. greatest (m .states) (λ Y. least (m .states) (G m X Y)))
   stages-grow =
       record {
-        size = λ X. greatest-size (m .states) _ (rounds-grow X);
-        mono = λ X X′ x. greatest-mono (m .states) _ _ (rounds-grow X) (rounds-grow X′) (λ Y. least-mono (m .states) (G m X Y) (G m X′ Y) (G-grows X Y) (G-grows X′ Y) (λ Z. G-mono X Y Z X′ Y Z x (same Y) (same Z)));
+          size = λ X. greatest-size (m .states) _ (rounds-grow X);
+          mono = λ X X′ x. greatest-mono (m .states) _ _ (rounds-grow X) (rounds-grow X′) (λ Y. least-mono (m .states) (G m X Y) (G m X′ Y) (G-grows X Y) (G-grows X′ Y) (λ Z. G-mono X Y Z X′ Y Z x (same Y) (same Z)))
       }

@@ -45,24 +45,24 @@ module _ (m : Arena) (top : ℕ) (x : ℕ → ℕ) (s : ℕ) where
   worst-is a zero v h b lt = absurd (omega arith)
   worst-is a (suc e) v h b lt =
       elim (cases-lt b e) [
-        | inl less ↦ worst-is a e v (omega arith) b less
-        | inr ge ↦ let here : b ≡ e = omega arith in rw here (omega arith)
+          inl less ↦ worst-is a e v (omega arith) b less
+          | inr ge ↦ let here : b ≡ e = omega arith in rw here (omega arith)
       ]
 
   pub best-le : (a c v : ℕ) → a < c → ((b : ℕ) → b < m .events s → x (m .next s a b) ≤ v) → best m top x s c ≤ v
   best-le a zero v lt h = absurd (omega arith)
   best-le a (suc c) v lt h =
       elim (cases-lt a c) [
-        | inl less ↦ omega (arith, best-le a c v less h)
-        | inr ge ↦ let here : a ≡ c = omega arith in omega (arith, rw here at (worst-le a (m .events s) v h))
+          inl less ↦ omega (arith, best-le a c v less h)
+          | inr ge ↦ let here : a ≡ c = omega arith in omega (arith, rw here at (worst-le a (m .events s) v h))
       ]
 
   pub best-is : (c v : ℕ) → best m top x s c ≤ v → v < top → (a : ℕ) × (a < c) × ((b : ℕ) → b < m .events s → x (m .next s a b) ≤ v)
   best-is zero v h lt = absurd (omega arith)
   best-is (suc c) v h lt =
       elim (cases-lt v (best m top x s c)) [
-        | inl more ↦ (c, omega arith, worst-is c (m .events s) v (omega arith))
-        | inr le ↦ let w = best-is c v le lt in (w .0, omega (arith, w .1), w .2)
+          inl more ↦ (c, omega arith, worst-is c (m .events s) v (omega arith))
+          | inr le ↦ let w = best-is c v le lt in (w .0, omega (arith, w .1), w .2)
       ]
 
 module _ (m : Arena) (lawful : Lawful m) (U : Region) where
@@ -97,8 +97,8 @@ module _ (m : Arena) (lawful : Lawful m) (U : Region) where
   pub height-calm : Calm m (top-of m) (has U) (height m U)
   height-calm s s< =
       elim (cases-lt (height m U s) (top-of m)) [
-        | inl lt ↦ calm-step (height m U s) s (m .grade s) s< lt (level-is (height m U s) s (height-in m U s lt))
-        | inr ge ↦ omega (arith, value-top m lawful (top-of m) (has U) (height m U) s)
+          inl lt ↦ calm-step (height m U s) s (m .grade s) s< lt (level-is (height m U s) s (height-in m U s lt))
+          | inr ge ↦ omega (arith, value-top m lawful (top-of m) (has U) (height m U) s)
       ]
 
   module _ (x : ℕ → ℕ) (calm : Calm m (top-of m) (has U) x) where
@@ -121,8 +121,8 @@ module _ (m : Arena) (lawful : Lawful m) (U : Region) where
     least-step : (k : ℕ) (lower : (j : ℕ) → suc j ≡ k → Within (upto j) (level m U (suc j))) → k < top-of m → (s g : ℕ) → s < m .states → by-grade g (cond (holds m (has U) s) 0 (top-of m)) (min (top-of m) (best m (top-of m) x s (m .commands s) + 1)) (best m (top-of m) x s (m .commands s)) ≤ k → by-grade g (holds m (has U) s) (holds m (has (level m U k)) s) (holds m (has (upto k)) s) ≡ true
     least-step k lower lt s zero s< h =
         elim (cases-bool (holds m (has U) s)) [
-          | inl t ↦ t
-          | inr f ↦ absurd (omega (arith, lt, rw (cond-false (holds m (has U) s) 0 (top-of m) f) at h))
+            inl t ↦ t
+            | inr f ↦ absurd (omega (arith, lt, rw (cond-false (holds m (has U) s) 0 (top-of m) f) at h))
         ]
     least-step zero lower lt s (suc zero) s< h = absurd (omega arith)
     least-step (suc k) lower lt s (suc zero) s< h =
@@ -136,8 +136,8 @@ module _ (m : Arena) (lawful : Lawful m) (U : Region) where
     unfolding upto
     upto-in k lower lt =
         greatest-in (m .states) (F m U (level m U k)) (F-grows m U (level m U k)) (upto k) (region-length (m .states) (λ s. leb (x s) k)) (λ s e.
-        let s< = upto-size k s e in
-        region-has (m .states) _ s s< ∙ least-step k lower lt s (m .grade s) s< (omega (arith, calm s s<, upto-le k s e)))
+            let s< = upto-size k s e in
+            region-has (m .states) _ s s< ∙ least-step k lower lt s (m .grade s) s< (omega (arith, calm s s<, upto-le k s e)))
 
     upto-level : (k : ℕ) → k < top-of m → Within (upto k) (level m U (suc k))
     upto-level zero lt = upto-in zero (λ j e. absurd (omega (arith, e))) lt
@@ -148,6 +148,6 @@ module _ (m : Arena) (lawful : Lawful m) (U : Region) where
     pub height-least : (s : ℕ) → s < m .states → height m U s ≤ x s
     height-least s s< =
         elim (cases-lt (x s) (top-of m)) [
-          | inl lt ↦ height-min m U s (x s) lt (upto-level (x s) lt s (upto-from (x s) s s< (omega arith)))
-          | inr ge ↦ omega (arith, ge, height-le m U s)
+            inl lt ↦ height-min m U s (x s) lt (upto-level (x s) lt s (upto-from (x s) s s< (omega arith)))
+            | inr ge ↦ omega (arith, ge, height-le m U s)
         ]

@@ -18,14 +18,10 @@ ladder n f (suc R) p h =
     let w = h (suc R) (omega arith) (omega arith) in
     let q : ℕ → Bool = λ t. p t && not (eqb t (w .0)) in
     let fewer = count-less q p n (w .0) (λ t lt e. and-parts (p t) (not (eqb t (w .0))) e .0) (w .1) (and-right (p (w .0)) (not (eqb (w .0) (w .0))) (ap not (eq-eqb (w .0) (w .0) refl))) (w .2) in
-    omega (
-      arith,
-      fewer,
-      ladder n f R q (λ v one le.
-          let u = h v one (omega arith) in
-          let apart : u .0 ≡ w .0 → ⊥ = λ e. omega (arith, sym (u .3) ∙ (ap f e ∙ w .3), le) in
-          (u .0, u .1, and-from (p (u .0)) (not (eqb (u .0) (w .0))) (u .2) (ap not (ne-eqb (u .0) (w .0) apart)), u .3)),
-    )
+    omega (arith, fewer, ladder n f R q (λ v one le.
+        let u = h v one (omega arith) in
+        let apart : u .0 ≡ w .0 → ⊥ = λ e. omega (arith, sym (u .3) ∙ (ap f e ∙ w .3), le) in
+        (u .0, u .1, and-from (p (u .0)) (not (eqb (u .0) (w .0))) (u .2) (ap not (ne-eqb (u .0) (w .0) apart)), u .3)))
 
 -- a state that a step adds
 abbrev pub Added : Region → Region → ℕ → Type 0
@@ -38,11 +34,11 @@ module _ (n : ℕ) (f : Region → Region) (grow : Growing n f) (p : ℕ → Boo
   step-adds : (r s : ℕ) → Added (iterate r f (nothing n)) (iterate (suc r) f (nothing n)) s → (v : ℕ) → v ≤ r → (t : ℕ) × Added (iterate v f (nothing n)) (iterate (suc v) f (nothing n)) t
   step-adds r s added v le =
       elim (within-or n (iterate (suc v) f (nothing n)) (iterate v f (nothing n)) (rising-size n f grow (suc v))) [
-        | inr out ↦ (out .0, (out .1, out .2))
-        | inl w ↦
-            let here = rising-stuck n f grow v r w le in
-            let next = rising-stuck n f grow v (suc r) w (omega arith) in
-            absurd (both-ways (has (iterate r f (nothing n)) s) (added .1) (ap (λ U. has U s) (here ∙ sym next) ∙ added .0))
+          inr out ↦ (out .0, (out .1, out .2))
+          | inl w ↦
+              let here = rising-stuck n f grow v r w le in
+              let next = rising-stuck n f grow v (suc r) w (omega arith) in
+              absurd (both-ways (has (iterate r f (nothing n)) s) (added .1) (ap (λ U. has U s) (here ∙ sym next) ∙ added .0))
       ]
 
   -- the step that adds a state is the lowest that has it
@@ -50,10 +46,10 @@ module _ (n : ℕ) (f : Region → Region) (grow : Growing n f) (p : ℕ → Boo
   added-number r s b added lt =
       lowest-found (λ k. has (iterate (suc k) f (nothing n)) s) b r
       (some-not (λ k. has (iterate (suc k) f (nothing n)) s) r (λ k less.
-      elim (cases-bool (has (iterate (suc k) f (nothing n)) s)) [
-        | inr no-member ↦ no-member
-        | inl t ↦ absurd (both-ways (has (iterate r f (nothing n)) s) (added .1) (rising-mono n f grow (suc k) r less s t))
-      ]))
+          elim (cases-bool (has (iterate (suc k) f (nothing n)) s)) [
+              inr no-member ↦ no-member
+              | inl t ↦ absurd (both-ways (has (iterate r f (nothing n)) s) (added .1) (rising-mono n f grow (suc k) r less s t))
+          ]))
       (added .0) lt
 
   pub step-bound : (r s : ℕ) → Added (iterate r f (nothing n)) (iterate (suc r) f (nothing n)) s → r ≤ count p n
@@ -76,6 +72,6 @@ earlier n f s (suc r) h = not-some (λ k. has (iterate (suc k) f (nothing n)) s)
 pub lowest-added : (n : ℕ) (f : Region → Region) (s b : ℕ) → lowest (λ k. has (iterate (suc k) f (nothing n)) s) b < b → Added (iterate (lowest (λ k. has (iterate (suc k) f (nothing n)) s) b) f (nothing n)) (iterate (suc (lowest (λ k. has (iterate (suc k) f (nothing n)) s) b)) f (nothing n)) s
 lowest-added n f s b lt =
     elim (lowest-ways (λ k. has (iterate (suc k) f (nothing n)) s) b) [
-      | inl none ↦ absurd (omega (arith, none .0))
-      | inr found ↦ (found .1, earlier n f s (lowest (λ k. has (iterate (suc k) f (nothing n)) s) b) (found .2))
+        inl none ↦ absurd (omega (arith, none .0))
+        | inr found ↦ (found .1, earlier n f s (lowest (λ k. has (iterate (suc k) f (nothing n)) s) b) (found .2))
     ]

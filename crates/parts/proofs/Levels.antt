@@ -41,18 +41,18 @@ module _ (m : Arena) (lawful : Lawful m) (U : Region) where
   no-doubt : (k : ℕ) → Within (doubted-in (level m U (suc (suc k)))) (level m U (suc k)) → Within (level m U (suc (suc k))) (level m U (suc k))
   no-doubt k w =
       greatest-in (m .states) (F m U (level m U k)) (F-grows m U (level m U k)) (level m U (suc (suc k))) (greatest-size (m .states) _ (F-grows m U (level m U (suc k)))) (λ s here.
-      region-has (m .states) _ s (level-below m lawful U (suc k) s here) ∙ keep-step k s (m .grade s) refl w here (level-is m lawful U (suc k) s here))
+          region-has (m .states) _ s (level-below m lawful U (suc k) s here) ∙ keep-step k s (m .grade s) refl w here (level-is m lawful U (suc k) s here))
 
   level-jump : (k t : ℕ) → Added (level m U (suc k)) (level m U (suc (suc k))) t → (d : ℕ) × (eqb (m .grade d) 1 ≡ true) × Added (level m U (suc k)) (level m U (suc (suc k))) d
   unfolding doubted-in
   level-jump k t added =
       elim (within-or (m .states) (doubted-in (level m U (suc (suc k)))) (level m U (suc k)) (region-length (m .states) _)) [
-        | inl w ↦ absurd (both-ways (has (level m U (suc k)) t) (added .1) (no-doubt k w t (added .0)))
-        | inr out ↦
-            let d = out .0 in
-            let d< = has-below (m .states) (doubted-in (level m U (suc (suc k)))) (region-length (m .states) _) d (out .1) in
-            let both = and-parts (eqb (m .grade d) 1) (has (level m U (suc (suc k))) d) (sym (region-has (m .states) (λ t. eqb (m .grade t) 1 && has (level m U (suc (suc k))) t) d d<) ∙ out .1) in
-            (d, both .0, (both .1, out .2))
+          inl w ↦ absurd (both-ways (has (level m U (suc k)) t) (added .1) (no-doubt k w t (added .0)))
+          | inr out ↦
+              let d = out .0 in
+              let d< = has-below (m .states) (doubted-in (level m U (suc (suc k)))) (region-length (m .states) _) d (out .1) in
+              let both = and-parts (eqb (m .grade d) 1) (has (level m U (suc (suc k))) d) (sym (region-has (m .states) (λ t. eqb (m .grade t) 1 && has (level m U (suc (suc k))) t) d d<) ∙ out .1) in
+              (d, both .0, (both .1, out .2))
       ]
 
   -- the step at which a level takes a state in is at most the number of doubted states
@@ -96,6 +96,6 @@ level-mono m U V w (suc k) =
 pub height-mono : (m : Arena) (U V : Region) → Within U V → (s : ℕ) → height m V s ≤ height m U s
 height-mono m U V w s =
     elim (cases-lt (height m U s) (top-of m)) [
-      | inl lt ↦ height-min m V s (height m U s) lt (level-mono m U V w (suc (height m U s)) s (height-in m U s lt))
-      | inr ge ↦ omega (arith, ge, height-le m V s)
+        inl lt ↦ height-min m V s (height m U s) lt (level-mono m U V w (suc (height m U s)) s (height-in m U s lt))
+        | inr ge ↦ omega (arith, ge, height-le m V s)
     ]

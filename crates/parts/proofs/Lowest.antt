@@ -20,10 +20,10 @@ pub lowest-found : (p : ℕ → Bool) (n k : ℕ) → some p k ≡ false → p k
 lowest-found p zero k none here lt = absurd (omega arith)
 lowest-found p (suc n) k none here lt =
     elim (cases-eq k n) [
-      | inl e ↦ rw (← e, none, here) refl
-      | inr ne ↦
-          let below : k < n = omega arith in
-          rw (some-at p n k here below) (lowest-found p n k none here below)
+        inl e ↦ rw (← e, none, here) refl
+        | inr ne ↦
+            let below : k < n = omega arith in
+            rw (some-at p n k here below) (lowest-found p n k none here below)
     ]
 
 -- none below passes
@@ -34,8 +34,8 @@ some-not p (suc n) h = or-from (p n) (some p n) (h n (omega arith)) (some-not p 
 pub not-some : (p : ℕ → Bool) (n k : ℕ) → some p n ≡ false → k < n → p k ≡ false
 not-some p n k h lt =
     elim (cases-bool (p k)) [
-      | inl t ↦ absurd (both-ways (some p n) h (some-at p n k t lt))
-      | inr f ↦ f
+        inl t ↦ absurd (both-ways (some p n) h (some-at p n k t lt))
+        | inr f ↦ f
     ]
 
 -- either none passes, or the lowest that does is known
@@ -43,13 +43,13 @@ pub lowest-ways : (p : ℕ → Bool) (n : ℕ) → ((lowest p n ≡ n) × (some 
 lowest-ways p zero = inl (refl, refl)
 lowest-ways p (suc n) =
     elim (lowest-ways p n) [
-      | inl none ↦ elim (cases-bool (p n)) [
-        | inl t ↦ let e = lowest-found p (suc n) n (none .1) t (omega arith) in inr (omega arith, ap p e ∙ t, ap (some p) e ∙ none .1)
-        | inr f ↦ let h = or-from (p n) (some p n) f (none .1) in inl (lowest-none p (suc n) h, h)
-      ]
-      | inr found ↦
-          let e = lowest-found p (suc n) (lowest p n) (found .2) (found .1) (omega (arith, found .0)) in
-          inr (omega (arith, e, found .0), ap p e ∙ found .1, ap (some p) e ∙ found .2)
+        inl none ↦ elim (cases-bool (p n)) [
+            inl t ↦ let e = lowest-found p (suc n) n (none .1) t (omega arith) in inr (omega arith, ap p e ∙ t, ap (some p) e ∙ none .1)
+            | inr f ↦ let h = or-from (p n) (some p n) f (none .1) in inl (lowest-none p (suc n) h, h)
+        ]
+        | inr found ↦
+            let e = lowest-found p (suc n) (lowest p n) (found .2) (found .1) (omega (arith, found .0)) in
+            inr (omega (arith, e, found .0), ap p e ∙ found .1, ap (some p) e ∙ found .2)
     ]
 
 -- it is at most the bound
@@ -60,11 +60,11 @@ lowest-le p n = elim (lowest-ways p n) [ inl a ↦ omega (arith, a .0) | inr b �
 pub lowest-min : (p : ℕ → Bool) (n k : ℕ) → k < n → p k ≡ true → lowest p n ≤ k
 lowest-min p n k lt h =
     elim (lowest-ways p n) [
-      | inl a ↦ absurd (both-ways (some p n) (a .1) (some-at p n k h lt))
-      | inr b ↦ elim (cases-lt k (lowest p n)) [
-        | inl less ↦ absurd (both-ways (some p (lowest p n)) (b .2) (some-at p (lowest p n) k h less))
-        | inr ge ↦ ge
-      ]
+        inl a ↦ absurd (both-ways (some p n) (a .1) (some-at p n k h lt))
+        | inr b ↦ elim (cases-lt k (lowest p n)) [
+            inl less ↦ absurd (both-ways (some p (lowest p n)) (b .2) (some-at p (lowest p n) k h less))
+            | inr ge ↦ ge
+        ]
     ]
 
 -- below its bound it passes
@@ -75,6 +75,6 @@ lowest-passes p n lt = elim (lowest-ways p n) [ inl a ↦ absurd (omega (arith, 
 pub lowest-below : (p : ℕ → Bool) (n k : ℕ) → k < lowest p n → p k ≡ false
 lowest-below p n k lt =
     elim (lowest-ways p n) [
-      | inl a ↦ not-some p n k (a .1) (omega (arith, a .0))
-      | inr b ↦ not-some p (lowest p n) k (b .2) lt
+        inl a ↦ not-some p n k (a .1) (omega (arith, a .0))
+        | inr b ↦ not-some p (lowest p n) k (b .2) lt
     ]

@@ -88,18 +88,18 @@ module _ (m : Arena) (lawful : Lawful m) where
     unfolding A L
     no-confirmation =
         greatest-in (m .states) (λ Y. least (m .states) (G m (stage m k) Y)) (rounds-grow m (stage m k)) (stage m (suc (suc k))) (rising-size (m .states) _ (stages-grow m) (suc (suc k))) (λ s h.
-        V-parts s (least-out (m .states) (G m (stage m (suc k)) (stage m (suc (suc k)))) (G-grows m (stage m (suc k)) (stage m (suc (suc k)))) V into-V s (ap (λ U. has U s) (stage-fixed (suc k)) ∙ h)) .0)
+            V-parts s (least-out (m .states) (G m (stage m (suc k)) (stage m (suc (suc k)))) (G-grows m (stage m (suc k)) (stage m (suc (suc k)))) V into-V s (ap (λ U. has U s) (stage-fixed (suc k)) ∙ h)) .0)
 
   pub stage-jump : (k t : ℕ) → Added (stage m (suc k)) (stage m (suc (suc k))) t → (d : ℕ) × (eqb (m .grade d) 0 ≡ true) × Added (stage m (suc k)) (stage m (suc (suc k))) d
   unfolding confirmed-in
   stage-jump k t added =
       elim (within-or (m .states) (confirmed-in (stage m (suc (suc k)))) (stage m (suc k)) (region-length (m .states) _)) [
-        | inl w ↦ absurd (both-ways (has (stage m (suc k)) t) (added .1) (no-confirmation k w t (added .0)))
-        | inr out ↦
-            let d = out .0 in
-            let d< = has-below (m .states) (confirmed-in (stage m (suc (suc k)))) (region-length (m .states) _) d (out .1) in
-            let both = and-parts (eqb (m .grade d) 0) (has (stage m (suc (suc k))) d) (sym (region-has (m .states) (λ t. eqb (m .grade t) 0 && has (stage m (suc (suc k))) t) d d<) ∙ out .1) in
-            (d, both .0, (both .1, out .2))
+          inl w ↦ absurd (both-ways (has (stage m (suc k)) t) (added .1) (no-confirmation k w t (added .0)))
+          | inr out ↦
+              let d = out .0 in
+              let d< = has-below (m .states) (confirmed-in (stage m (suc (suc k)))) (region-length (m .states) _) d (out .1) in
+              let both = and-parts (eqb (m .grade d) 0) (has (stage m (suc (suc k))) d) (sym (region-has (m .states) (λ t. eqb (m .grade t) 0 && has (stage m (suc (suc k))) t) d d<) ∙ out .1) in
+              (d, both .0, (both .1, out .2))
       ]
 
 -- the covered part is its own limit
@@ -130,9 +130,9 @@ module _ (m : Arena) (lawful : Lawful m) where
   pub peeled-none : (firsts : List ℕ) → ((s : ℕ) → s < m .states → at firsts s ≡ none) → Peeled m 0 firsts
   peeled-none firsts h =
       record {
-        numbered = λ s e. absurd (nothing-has (m .states) s e);
-        small = λ s e. absurd (nothing-has (m .states) s e);
-        fresh = λ s lt _. h s lt;
+          numbered = λ s e. absurd (nothing-has (m .states) s e);
+          small = λ s e. absurd (nothing-has (m .states) s e);
+          fresh = λ s lt _. h s lt
       }
 
   module _ (i : ℕ) (i≤ : i ≤ m .states) (firsts : List ℕ) (peeled : Peeled m i firsts) where
@@ -140,10 +140,10 @@ module _ (m : Arena) (lawful : Lawful m) where
     pub unnumbered-is : (s : ℕ) → s < m .states → unnumbered firsts s ≡ has (remain m i) s
     unnumbered-is s lt =
         elim (cases-bool (has (stage m i) s)) [
-          | inl t ↦
-              let few = lawful .limited in
-              ne-eqb (at firsts s) none (λ e. omega (arith, e, peeled .numbered s t, peeled .small s t, few, i≤)) ∙ sym (remain-not m lawful i s lt ∙ ap not t)
-          | inr f ↦ eq-eqb (at firsts s) none (peeled .fresh s lt f) ∙ sym (remain-not m lawful i s lt ∙ ap not f)
+            inl t ↦
+                let few = lawful .limited in
+                ne-eqb (at firsts s) none (λ e. omega (arith, e, peeled .numbered s t, peeled .small s t, few, i≤)) ∙ sym (remain-not m lawful i s lt ∙ ap not t)
+            | inr f ↦ eq-eqb (at firsts s) none (peeled .fresh s lt f) ∙ sym (remain-not m lawful i s lt ∙ ap not f)
         ]
 
     value-is : (x : ℕ → ℕ) (s : ℕ) → s < m .states → value m (top-of m) (unnumbered firsts) x s ≡ value m (top-of m) (has (remain m i)) x s
@@ -164,8 +164,8 @@ module _ (m : Arena) (lawful : Lawful m) where
           let both = and-parts (unnumbered firsts s) (eqb (at ranks s) (top-of m)) h in
           let at-top = eqb-true (at ranks s) (top-of m) (both .1) in
           let gone : has (remain m (suc i)) s ≡ false = elim (cases-bool (has (limit m (remain m i)) s)) [
-            | inl t ↦ absurd (omega (arith, done s lt, at-top, limit-height m lawful (remain m i) s t .1))
-            | inr f ↦ f
+              inl t ↦ absurd (omega (arith, done s lt, at-top, limit-height m lawful (remain m i) s t .1))
+              | inr f ↦ f
           ] in
           (stage-not m lawful (suc i) s lt ∙ ap not gone, stage-not m lawful i s lt ∙ ap not (sym (unnumbered-is s lt) ∙ both .0))
 
@@ -174,8 +174,8 @@ module _ (m : Arena) (lawful : Lawful m) where
           let lt = stage-below m lawful (suc i) s (added .0) in
           let gone : has (limit m (remain m i)) s ≡ false = remain-not m lawful (suc i) s lt ∙ ap not (added .0) in
           let high : height m (remain m i) s ≡ top-of m = elim (cases-lt (height m (remain m i) s) (top-of m)) [
-            | inl less ↦ absurd (both-ways (has (limit m (remain m i)) s) gone (height-limit m lawful (remain m i) s less))
-            | inr ge ↦ omega (arith, ge, height-le m (remain m i) s)
+              inl less ↦ absurd (both-ways (has (limit m (remain m i)) s) gone (height-limit m lawful (remain m i) s less))
+              | inr ge ↦ omega (arith, ge, height-le m (remain m i) s)
           ] in
           and-from (unnumbered firsts s) (eqb (at ranks s) (top-of m)) (unnumbered-is s lt ∙ (remain-not m lawful i s lt ∙ ap not (added .1))) (eq-eqb (at ranks s) (top-of m) (done s lt ∙ high))
 
@@ -184,10 +184,10 @@ module _ (m : Arena) (lawful : Lawful m) where
       unfolding first least
       added-first s added =
           let less : i < m .states = elim (cases-eq i (m .states)) [
-            | inl e ↦
-                let still : stage m (suc (m .states)) ≡ stage m (m .states) = least-fixed (m .states) _ (stages-grow m) in
-                absurd (both-ways (has (stage m i) s) (added .1) (ap (λ j. has (stage m j) s) e ∙ (ap (λ U. has U s) (sym still) ∙ (ap (λ j. has (stage m (suc j)) s) (sym e) ∙ added .0))))
-            | inr ne ↦ omega (arith, ne, i≤)
+              inl e ↦
+                  let still : stage m (suc (m .states)) ≡ stage m (m .states) = least-fixed (m .states) _ (stages-grow m) in
+                  absurd (both-ways (has (stage m i) s) (added .1) (ap (λ j. has (stage m j) s) e ∙ (ap (λ U. has U s) (sym still) ∙ (ap (λ j. has (stage m (suc j)) s) (sym e) ∙ added .0))))
+              | inr ne ↦ omega (arith, ne, i≤)
           ] in
           (added-number (m .states) _ (stages-grow m) (λ s. eqb (m .grade s) 0) (stage-jump m lawful) i s (m .states) added less, less)
 
@@ -199,34 +199,34 @@ module _ (m : Arena) (lawful : Lawful m) where
         kept-stage : (s : ℕ) → has (stage m i) s ≡ true → lost (top-of m) ranks firsts s ≡ false
         kept-stage s t =
             elim (cases-bool (lost (top-of m) ranks firsts s)) [
-              | inl l ↦ absurd (both-ways (has (stage m i) s) (lost-added s (stage-below m lawful i s t) l .1) t)
-              | inr f ↦ f
+                inl l ↦ absurd (both-ways (has (stage m i) s) (lost-added s (stage-below m lawful i s t) l .1) t)
+                | inr f ↦ f
             ]
 
         kept-remain : (s : ℕ) → s < m .states → has (stage m (suc i)) s ≡ false → lost (top-of m) ranks firsts s ≡ false
         kept-remain s lt e =
             elim (cases-bool (lost (top-of m) ranks firsts s)) [
-              | inl l ↦ absurd (both-ways (has (stage m (suc i)) s) e (lost-added s lt l .0))
-              | inr f ↦ f
+                inl l ↦ absurd (both-ways (has (stage m (suc i)) s) e (lost-added s lt l .0))
+                | inr f ↦ f
             ]
 
         peeled-next : Peeled m (suc i) after
         peeled-next =
             record {
-              numbered = λ s e. elim (cases-bool (has (stage m i) s)) [
-                | inl t ↦ not-lost s (kept-stage s t) ∙ peeled .numbered s t
-                | inr f ↦ marked s ∙ (cond-true (lost (top-of m) ranks firsts s) i (at firsts s) (added-lost s (e, f)) ∙ sym (added-first s (e, f) .0))
-              ];
-              small = λ s e. elim (cases-bool (has (stage m i) s)) [
-                | inl t ↦ omega (arith, peeled .small s t)
-                | inr f ↦ omega (arith, added-first s (e, f) .0)
-              ];
-              fresh = λ s lt e.
-                  let before : has (stage m i) s ≡ false = elim (cases-bool (has (stage m i) s)) [
-                    | inl t ↦ absurd (both-ways (has (stage m (suc i)) s) e (rising (m .states) _ (stages-grow m) i s t))
-                    | inr f ↦ f
-                  ] in
-                  not-lost s (kept-remain s lt e) ∙ peeled .fresh s lt before;
+                numbered = λ s e. elim (cases-bool (has (stage m i) s)) [
+                    inl t ↦ not-lost s (kept-stage s t) ∙ peeled .numbered s t
+                    | inr f ↦ marked s ∙ (cond-true (lost (top-of m) ranks firsts s) i (at firsts s) (added-lost s (e, f)) ∙ sym (added-first s (e, f) .0))
+                ];
+                small = λ s e. elim (cases-bool (has (stage m i) s)) [
+                    inl t ↦ omega (arith, peeled .small s t)
+                    | inr f ↦ omega (arith, added-first s (e, f) .0)
+                ];
+                fresh = λ s lt e.
+                    let before : has (stage m i) s ≡ false = elim (cases-bool (has (stage m i) s)) [
+                        inl t ↦ absurd (both-ways (has (stage m (suc i)) s) e (rising (m .states) _ (stages-grow m) i s t))
+                        | inr f ↦ f
+                    ] in
+                    not-lost s (kept-remain s lt e) ∙ peeled .fresh s lt before
             }
 
         -- a phase that found a state: on to the next
@@ -243,8 +243,8 @@ module _ (m : Arena) (lawful : Lawful m) where
           stage-end : stage m (m .states) ≡ stage m i
           stage-end =
               rising-stuck (m .states) _ (stages-grow m) i (m .states) (λ s e. elim (cases-bool (has (stage m i) s)) [
-                | inl t ↦ t
-                | inr f ↦ absurd (both-ways (lost (top-of m) ranks firsts s) (all-kept s (stage-below m lawful (suc i) s e)) (added-lost s (e, f)))
+                  inl t ↦ t
+                  | inr f ↦ absurd (both-ways (lost (top-of m) ranks firsts s) (all-kept s (stage-below m lawful (suc i) s e)) (added-lost s (e, f)))
               ]) i≤
 
           covered-stage : (s : ℕ) → s < m .states → has (covered m) s ≡ not (has (stage m i) s)
@@ -267,21 +267,20 @@ module _ (m : Arena) (lawful : Lawful m) where
 
           pub peeled-all : FirstRow m i after × RankRow m ranks
           unfolding rank
-          peeled-all = (
-            record {
-              few = i≤;
-              no-first = λ s lt t. not-lost s (all-kept s lt) ∙ peeled .fresh s lt (not-true (has (stage m i) s) (sym (covered-stage s lt) ∙ t));
-              numbered = λ s lt f. not-lost s (all-kept s lt) ∙ peeled .numbered s (in-stage s lt f);
-              below = λ s lt f. peeled .small s (in-stage s lt f);
-            },
-            record {
-              ranked = λ s lt t. end-rank s lt ∙ limit-height m lawful (covered m) s (ap (λ U. has U s) (covered-fixed m) ∙ t) .0;
-              unranked = λ s lt f. end-rank s lt ∙ elim (cases-lt (height m (covered m) s) (top-of m)) [
-                | inl less ↦ absurd (both-ways (has (covered m) s) f (ap (λ U. has U s) (sym (covered-fixed m)) ∙ height-limit m lawful (covered m) s less))
-                | inr ge ↦ omega (arith, ge, height-le m (covered m) s)
-              ];
-            },
-          )
+          peeled-all =
+              (record {
+                  few = i≤;
+                  no-first = λ s lt t. not-lost s (all-kept s lt) ∙ peeled .fresh s lt (not-true (has (stage m i) s) (sym (covered-stage s lt) ∙ t));
+                  numbered = λ s lt f. not-lost s (all-kept s lt) ∙ peeled .numbered s (in-stage s lt f);
+                  below = λ s lt f. peeled .small s (in-stage s lt f)
+              },
+              record {
+                  ranked = λ s lt t. end-rank s lt ∙ limit-height m lawful (covered m) s (ap (λ U. has U s) (covered-fixed m) ∙ t) .0;
+                  unranked = λ s lt f. end-rank s lt ∙ elim (cases-lt (height m (covered m) s) (top-of m)) [
+                      inl less ↦ absurd (both-ways (has (covered m) s) f (ap (λ U. has U s) (sym (covered-fixed m)) ∙ height-limit m lawful (covered m) s less))
+                      | inr ge ↦ omega (arith, ge, height-le m (covered m) s)
+                  ]
+              })
 
 -- one whole phase: lifted, and marked
 module _ (m : Arena) (lawful : Lawful m) (i top n : ℕ) (top-is : top ≡ top-of m) (n-is : n ≡ m .states) (i≤ : i ≤ m .states) (firsts before ranks after : List ℕ) (peeled : Peeled m i firsts) (under : Under m i before) (raised : Raised m top (unnumbered firsts) before ranks) (calm : Calm m top (unnumbered firsts) (at ranks)) (marked : (s : ℕ) → at after s ≡ cond (lost top ranks firsts s) i (at firsts s)) (any : Bool) (any-is : any ≡ some (lost top ranks firsts) n) where

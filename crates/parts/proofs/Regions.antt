@@ -36,8 +36,8 @@ Sized n U = length U ≡ n
 pub has-below : (n : ℕ) (U : Region) → Sized n U → (s : ℕ) → has U s ≡ true → s < n
 has-below n U size s h =
     elim (cases-lt s n) [
-      | inl lt ↦ lt
-      | inr ge ↦ absurd (both-ways (has U s) (getD-past U s false (omega arith)) h)
+        inl lt ↦ lt
+        | inr ge ↦ absurd (both-ways (has U s) (getD-past U s false (omega arith)) h)
     ]
 
 -- inclusion
@@ -48,10 +48,10 @@ Within U V = (s : ℕ) → has U s ≡ true → has V s ≡ true
 pub within-both : (n : ℕ) (U V : Region) → Sized n U → Sized n V → Within U V → Within V U → U ≡ V
 within-both n U V su sv p q =
     ext-getD false U V (su ∙ sym sv) (λ s lt.
-    elim (cases-bool (has U s)) [
-      | inl t ↦ t ∙ sym (p s t)
-      | inr f ↦ f ∙ sym (elim (cases-bool (has V s)) [ inl t ↦ absurd (both-ways (has U s) f (q s t)) | inr g ↦ g ])
-    ])
+        elim (cases-bool (has U s)) [
+            inl t ↦ t ∙ sym (p s t)
+            | inr f ↦ f ∙ sym (elim (cases-bool (has V s)) [ inl t ↦ absurd (both-ways (has U s) f (q s t)) | inr g ↦ g ])
+        ])
 
 -- a test that says no more than another makes no larger a region
 pub region-within : (n : ℕ) (p q : ℕ → Bool) → ((s : ℕ) → s < n → p s ≡ true → q s ≡ true) → Within (region n p) (region n q)
@@ -87,14 +87,14 @@ within-or n U V size = elim (go n) [ inl h ↦ inl (λ s e. h s (has-below n U s
   go zero = inl (λ s lt e. absurd (omega arith))
   go (suc k) =
       elim (go k) [
-        | inr w ↦ inr w
-        | inl h ↦ elim (cases-bool (has U k)) [
-          | inr f ↦ inl (λ s lt e. elim (cases-eq s k) [ inl k≡ ↦ absurd (both-ways (has U s) (ap (has U) k≡ ∙ f) e) | inr ne ↦ h s (omega arith) e ])
-          | inl t ↦ elim (cases-bool (has V k)) [
-            | inl t′ ↦ inl (λ s lt e. elim (cases-eq s k) [ inl k≡ ↦ ap (has V) k≡ ∙ t′ | inr ne ↦ h s (omega arith) e ])
-            | inr f′ ↦ inr (k, t, f′)
+          inr w ↦ inr w
+          | inl h ↦ elim (cases-bool (has U k)) [
+              inr f ↦ inl (λ s lt e. elim (cases-eq s k) [ inl k≡ ↦ absurd (both-ways (has U s) (ap (has U) k≡ ∙ f) e) | inr ne ↦ h s (omega arith) e ])
+              | inl t ↦ elim (cases-bool (has V k)) [
+                  inl t′ ↦ inl (λ s lt e. elim (cases-eq s k) [ inl k≡ ↦ ap (has V) k≡ ∙ t′ | inr ne ↦ h s (omega arith) e ])
+                  | inr f′ ↦ inr (k, t, f′)
+              ]
           ]
-        ]
       ]
 
 -- counting the members of regions
@@ -103,24 +103,24 @@ count-mono p q zero h = omega arith
 count-mono p q (suc n) h =
     let below = count-mono p q n (λ s lt. h s (omega arith)) in
     elim (cases-bool (p n)) [
-      | inl t ↦ rw (t, h n (omega arith) t) (omega (arith, below))
-      | inr f ↦ rw f (cond-both (q n) 1 0 (λ x. count p n + 0 ≤ count q n + x) (λ _. omega (arith, below)) (λ _. omega (arith, below)))
+        inl t ↦ rw (t, h n (omega arith) t) (omega (arith, below))
+        | inr f ↦ rw f (cond-both (q n) 1 0 (λ x. count p n + 0 ≤ count q n + x) (λ _. omega (arith, below)) (λ _. omega (arith, below)))
     ]
 
 pub count-less : (p q : ℕ → Bool) (n s : ℕ) → ((t : ℕ) → t < n → p t ≡ true → q t ≡ true) → s < n → p s ≡ false → q s ≡ true → count p n < count q n
 count-less p q zero s h lt f t = absurd (omega arith)
 count-less p q (suc n) s h lt f t =
     elim (cases-eq s n) [
-      | inl e ↦
-          let pf = ap p (sym e) ∙ f in
-          let qt = ap q (sym e) ∙ t in
-          rw (pf, qt) (omega (arith, count-mono p q n (λ u l. h u (omega arith))))
-      | inr ne ↦
-          let below = count-less p q n s (λ u l. h u (omega arith)) (omega arith) f t in
-          elim (cases-bool (p n)) [
-            | inl here ↦ rw (here, h n (omega arith) here) (omega (arith, below))
-            | inr away ↦ rw away (cond-both (q n) 1 0 (λ x. count p n + 0 < count q n + x) (λ _. omega (arith, below)) (λ _. omega (arith, below)))
-          ]
+        inl e ↦
+            let pf = ap p (sym e) ∙ f in
+            let qt = ap q (sym e) ∙ t in
+            rw (pf, qt) (omega (arith, count-mono p q n (λ u l. h u (omega arith))))
+        | inr ne ↦
+            let below = count-less p q n s (λ u l. h u (omega arith)) (omega arith) f t in
+            elim (cases-bool (p n)) [
+                inl here ↦ rw (here, h n (omega arith) here) (omega (arith, below))
+                | inr away ↦ rw away (cond-both (q n) 1 0 (λ x. count p n + 0 < count q n + x) (λ _. omega (arith, below)) (λ _. omega (arith, below)))
+            ]
     ]
 
 -- an operator on regions of n states that keeps their size and grows with them
@@ -152,11 +152,11 @@ module _ (n : ℕ) (f : Region → Region) (grow : Growing n f) where
   rising-count (suc k) =
       let C = iterate k f (nothing n) in
       elim (rising-count k) [
-        | inl e ↦ inl (ap f e)
-        | inr c ↦ elim (within-or n (f C) C (grow .size C)) [
-          | inl w ↦ inl (ap f (within-both n (f C) C (grow .size C) (rising-size k) w (rising k)))
-          | inr out ↦ inr (omega (arith, c, count-less (has C) (has (f C)) n (out .0) (λ t lt e. rising k t e) (has-below n (f C) (grow .size C) (out .0) (out .1)) (out .2) (out .1)))
-        ]
+          inl e ↦ inl (ap f e)
+          | inr c ↦ elim (within-or n (f C) C (grow .size C)) [
+              inl w ↦ inl (ap f (within-both n (f C) C (grow .size C) (rising-size k) w (rising k)))
+              | inr out ↦ inr (omega (arith, c, count-less (has C) (has (f C)) n (out .0) (λ t lt e. rising k t e) (has-below n (f C) (grow .size C) (out .0) (out .1)) (out .2) (out .1)))
+          ]
       ]
 
   falling-count : (k : ℕ) → (f (iterate k f (all n)) ≡ iterate k f (all n)) ⊎ (k + count (has (iterate k f (all n))) n ≤ n)
@@ -164,11 +164,11 @@ module _ (n : ℕ) (f : Region → Region) (grow : Growing n f) where
   falling-count (suc k) =
       let C = iterate k f (all n) in
       elim (falling-count k) [
-        | inl e ↦ inl (ap f e)
-        | inr c ↦ elim (within-or n C (f C) (falling-size k)) [
-          | inl w ↦ inl (ap f (within-both n (f C) C (grow .size C) (falling-size k) (falling k) w))
-          | inr out ↦ inr (omega (arith, c, count-less (has (f C)) (has C) n (out .0) (λ t lt e. falling k t e) (has-below n C (falling-size k) (out .0) (out .1)) (out .2) (out .1)))
-        ]
+          inl e ↦ inl (ap f e)
+          | inr c ↦ elim (within-or n C (f C) (falling-size k)) [
+              inl w ↦ inl (ap f (within-both n (f C) C (grow .size C) (falling-size k) (falling k) w))
+              | inr out ↦ inr (omega (arith, c, count-less (has (f C)) (has C) n (out .0) (λ t lt e. falling k t e) (has-below n C (falling-size k) (out .0) (out .1)) (out .2) (out .1)))
+          ]
       ]
 
   -- after n steps nothing moves
@@ -177,11 +177,11 @@ module _ (n : ℕ) (f : Region → Region) (grow : Growing n f) where
   least-fixed =
       let C = iterate n f (nothing n) in
       elim (rising-count n) [
-        | inl e ↦ e
-        | inr c ↦ elim (within-or n (f C) C (grow .size C)) [
-          | inl w ↦ within-both n (f C) C (grow .size C) (rising-size n) w (rising n)
-          | inr out ↦ absurd (omega (arith, c, count-le (has (f C)) n, count-less (has C) (has (f C)) n (out .0) (λ t lt e. rising n t e) (has-below n (f C) (grow .size C) (out .0) (out .1)) (out .2) (out .1)))
-        ]
+          inl e ↦ e
+          | inr c ↦ elim (within-or n (f C) C (grow .size C)) [
+              inl w ↦ within-both n (f C) C (grow .size C) (rising-size n) w (rising n)
+              | inr out ↦ absurd (omega (arith, c, count-le (has (f C)) n, count-less (has C) (has (f C)) n (out .0) (λ t lt e. rising n t e) (has-below n (f C) (grow .size C) (out .0) (out .1)) (out .2) (out .1)))
+          ]
       ]
 
   pub greatest-fixed : f (greatest n f) ≡ greatest n f
@@ -189,11 +189,11 @@ module _ (n : ℕ) (f : Region → Region) (grow : Growing n f) where
   greatest-fixed =
       let C = iterate n f (all n) in
       elim (falling-count n) [
-        | inl e ↦ e
-        | inr c ↦ elim (within-or n C (f C) (falling-size n)) [
-          | inl w ↦ within-both n (f C) C (grow .size C) (falling-size n) (falling n) w
-          | inr out ↦ absurd (omega (arith, c, count-less (has (f C)) (has C) n (out .0) (λ t lt e. falling n t e) (has-below n C (falling-size n) (out .0) (out .1)) (out .2) (out .1)))
-        ]
+          inl e ↦ e
+          | inr c ↦ elim (within-or n C (f C) (falling-size n)) [
+              inl w ↦ within-both n (f C) C (grow .size C) (falling-size n) (falling n) w
+              | inr out ↦ absurd (omega (arith, c, count-less (has (f C)) (has C) n (out .0) (λ t lt e. falling n t e) (has-below n C (falling-size n) (out .0) (out .1)) (out .2) (out .1)))
+          ]
       ]
 
   pub least-size : Sized n (least n f)
@@ -229,8 +229,8 @@ module _ (n : ℕ) (f : Region → Region) (grow : Growing n f) where
   rising-mono j zero le = let e : j ≡ 0 = omega arith in rw e (λ s h. h)
   rising-mono j (suc k) le =
       elim (cases-eq j (suc k)) [
-        | inl e ↦ rw e (λ s h. h)
-        | inr ne ↦ λ s h. rising k s (rising-mono j k (omega arith) s h)
+          inl e ↦ rw e (λ s h. h)
+          | inr ne ↦ λ s h. rising k s (rising-mono j k (omega arith) s h)
       ]
 
   -- where a step adds nothing, no later one does
@@ -238,8 +238,8 @@ module _ (n : ℕ) (f : Region → Region) (grow : Growing n f) where
   rising-stuck j zero w le = let e : j ≡ 0 = omega arith in rw e refl
   rising-stuck j (suc k) w le =
       elim (cases-eq j (suc k)) [
-        | inl e ↦ rw e refl
-        | inr ne ↦ ap f (rising-stuck j k w (omega arith)) ∙ within-both n (iterate (suc j) f (nothing n)) (iterate j f (nothing n)) (grow .size (iterate j f (nothing n))) (rising-size j) w (rising j)
+          inl e ↦ rw e refl
+          | inr ne ↦ ap f (rising-stuck j k w (omega arith)) ∙ within-both n (iterate (suc j) f (nothing n)) (iterate j f (nothing n)) (grow .size (iterate j f (nothing n))) (rising-size j) w (rising j)
       ]
 
 -- larger operators have larger fixed points

@@ -21,12 +21,11 @@ add-top g c = omega (arith, c .doubted .ensures, graded-le _ (g .S·Site .lawful
 pub loop-i-holds : need.loop-i-holds
 loop-i-holds g c =
     let m = g .S·Site .arena (c .args .site .now) in
-    let zeros : (s : ℕ) → at (c .fill-2 .last .self) s ≡ 0 = λ s. rw (c .fill-2 .ensures .after (λ y e. e)) (filled-zero (length (c .args .ranks .now)) s) in (
-      (λ s. omega (arith, zeros s)),
-      peeled-none m (g .S·Site .lawful (c .args .site .now)) (c .fill .last .self) (λ s lt. rw (c .fill .ensures .after (λ y e. e)) (filled-within (length (c .args .firsts .now)) s 65535 (omega arith))),
-      (λ s lt. omega (arith, zeros s)),
-      omega arith,
-    )
+    let zeros : (s : ℕ) → at (c .fill-2 .last .self) s ≡ 0 = λ s. rw (c .fill-2 .ensures .after (λ y e. e)) (filled-zero (length (c .args .ranks .now)) s) in
+    ((λ s. omega (arith, zeros s)),
+    peeled-none m (g .S·Site .lawful (c .args .site .now)) (c .fill .last .self) (λ s lt. rw (c .fill .ensures .after (λ y e. e)) (filled-within (length (c .args .firsts .now)) s 65535 (omega arith))),
+    (λ s lt. omega (arith, zeros s)),
+    omega arith)
 
 pub settle-requires : need.settle-requires
 settle-requires g c κs = record { limit = omega (arith, c .doubted .ensures, graded-le _ (g .S·Site .lawful (c .args .site .now)) 1); firsts = omega arith; ranks = omega arith; capped = c .loop-i .inv .0 }
