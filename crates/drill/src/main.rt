@@ -3,9 +3,6 @@ mod failures;
 mod floor;
 mod script;
 
-use check::calls::Call;
-use check::playing::play;
-use check::runs::Run;
 use crate::failures::Failure;
 use crate::failures::FailureFromAlloc;
 use crate::failures::FailureFromFault;
@@ -13,6 +10,9 @@ use crate::failures::FailureFromInput;
 use crate::floor::Planned;
 use crate::floor::plan_floor;
 use crate::script::read_script;
+use check::calls::Call;
+use check::playing::play;
+use check::runs::Run;
 use site::faults::Fault;
 use site::table_site::TableSite;
 use site::tables::Table;
@@ -39,7 +39,11 @@ fn show(rt: &LibcRuntime, call: Call, answer: Result<usize, Fault>) -> Result<()
 }
 
 // Prints the states of the run that the calls made, the first first.
-fn show_run(rt: &LibcRuntime, calls: &[Call], answers: &[Result<usize, Fault>]) -> Result<(), Failure> {
+fn show_run(
+    rt: &LibcRuntime,
+    calls: &[Call],
+    answers: &[Result<usize, Fault>],
+) -> Result<(), Failure> {
     let mut states = Vec::new(rt.alloc());
     for (call, answer) in calls.iter().zip(answers) {
         if let Ok(state) = answer {
@@ -68,8 +72,16 @@ fn push(states: &mut Vec<usize>, state: usize) -> Result<(), Failure> {
 fn show_record(rt: &LibcRuntime, run: Run) -> Result<(), Failure> {
     match run {
         Run::Blank => println!(rt, "no run was placed")?,
-        Run::Placed { confirmations, doubts, row, .. } => {
-            println!(rt, "confirmations {confirmations} doubts {doubts} row {row}")?
+        Run::Placed {
+            confirmations,
+            doubts,
+            row,
+            ..
+        } => {
+            println!(
+                rt,
+                "confirmations {confirmations} doubts {doubts} row {row}"
+            )?
         }
     }
     Ok(())
@@ -79,10 +91,22 @@ fn show_record(rt: &LibcRuntime, run: Run) -> Result<(), Failure> {
 fn drill(rt: &LibcRuntime, floor: &[u8]) -> Result<(), Failure> {
     let calls = read_script(rt)?;
     let plan = plan_floor(rt.alloc(), floor)?;
-    let Planned { states, rows, arrows, leaves, replies } = plan;
+    let Planned {
+        states,
+        rows,
+        arrows,
+        leaves,
+        replies,
+    } = plan;
     let table = Table::new(states, rows.as_slice(), arrows.as_slice());
     let mut answers = vec![in rt.alloc(); Ok(0usize); calls.len()]?;
-    let run = play(&table, leaves.as_slice(), replies.as_slice(), calls.as_slice(), answers.as_mut_slice())?;
+    let run = play(
+        &table,
+        leaves.as_slice(),
+        replies.as_slice(),
+        calls.as_slice(),
+        answers.as_mut_slice(),
+    )?;
     for (call, answer) in calls.as_slice().iter().zip(answers.as_slice()) {
         show(rt, *call, *answer)?;
     }
@@ -110,7 +134,10 @@ fn main(rt: LibcRuntime) -> Result<(), AnyError> {
             Err("the floor was refused".into())
         }
         Err(Failure::BadLine(line)) => {
-            println!(rt, "line {line} is no call: write place, book or objection and a number")?;
+            println!(
+                rt,
+                "line {line} is no call: write place, book or objection and a number"
+            )?;
             Err("the script was refused".into())
         }
         Err(Failure::NoFloor) => rt.report(Err("usage: drill FLOOR < SCRIPT".into())),

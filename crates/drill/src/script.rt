@@ -1,7 +1,7 @@
 // The script: one call to a line, as `place 2`, `book 1` or `objection 0`.
-use check::calls::Call;
 use crate::failures::Failure;
 use crate::failures::FailureFromInput;
+use check::calls::Call;
 
 // The number after the word, if the line is the word, a blank and a number.
 fn number_after(line: &str, word: &str) -> Option<usize> {

@@ -9,17 +9,51 @@ use site::tables::Table;
 use std::test::*;
 
 const ROWS: [Row; 4] = [
-    Row { grade: Grade::Confirmed, commands: 1, events: 1, first: 0 },
-    Row { grade: Grade::Ordinary, commands: 2, events: 2, first: 1 },
-    Row { grade: Grade::Doubted, commands: 1, events: 2, first: 5 },
-    Row { grade: Grade::Doubted, commands: 1, events: 1, first: 7 },
+    Row {
+        grade: Grade::Confirmed,
+        commands: 1,
+        events: 1,
+        first: 0,
+    },
+    Row {
+        grade: Grade::Ordinary,
+        commands: 2,
+        events: 2,
+        first: 1,
+    },
+    Row {
+        grade: Grade::Doubted,
+        commands: 1,
+        events: 2,
+        first: 5,
+    },
+    Row {
+        grade: Grade::Doubted,
+        commands: 1,
+        events: 1,
+        first: 7,
+    },
 ];
+
 const ARROWS: [u16; 8] = [1, 1, 2, 0, 1, 0, 1, 3];
+
 const LEAVES: [Leaf; 4] = [
-    Leaf::Covered { command: 0, rank: 0 },
-    Leaf::Covered { command: 1, rank: 0 },
-    Leaf::Covered { command: 0, rank: 1 },
-    Leaf::Open { first: 0, second: 0 },
+    Leaf::Covered {
+        command: 0,
+        rank: 0,
+    },
+    Leaf::Covered {
+        command: 1,
+        rank: 0,
+    },
+    Leaf::Covered {
+        command: 0,
+        rank: 1,
+    },
+    Leaf::Open {
+        first: 0,
+        second: 0,
+    },
 ];
 
 // What the check answers: the refusal's number and place, or 0 and how many states are covered.
@@ -48,21 +82,117 @@ fn accepts_floor_b() -> Result<(), Fail> {
 
 #[test]
 fn refuses_wrong_numbers() -> Result<(), Fail> {
-    check(answer(&with(2, Leaf::Covered { command: 0, rank: 0 }), &[0u8; 64]) == (13, 2))?;
-    check(answer(&with(0, Leaf::Covered { command: 0, rank: 3 }), &[0u8; 64]) == (11, 0))?;
-    check(answer(&with(3, Leaf::Open { first: 2, second: 0 }), &[0u8; 64]) == (11, 3))?;
-    check(answer(&with(3, Leaf::Open { first: 0, second: 2 }), &[0u8; 64]) == (11, 3))
+    check(
+        answer(
+            &with(
+                2,
+                Leaf::Covered {
+                    command: 0,
+                    rank: 0,
+                },
+            ),
+            &[0u8; 64],
+        )
+            == (13, 2),
+    )?;
+    check(
+        answer(
+            &with(
+                0,
+                Leaf::Covered {
+                    command: 0,
+                    rank: 3,
+                },
+            ),
+            &[0u8; 64],
+        )
+            == (11, 0),
+    )?;
+    check(
+        answer(
+            &with(
+                3,
+                Leaf::Open {
+                    first: 2,
+                    second: 0,
+                },
+            ),
+            &[0u8; 64],
+        )
+            == (11, 3),
+    )?;
+    check(
+        answer(
+            &with(
+                3,
+                Leaf::Open {
+                    first: 0,
+                    second: 2,
+                },
+            ),
+            &[0u8; 64],
+        )
+            == (11, 3),
+    )
 }
 
 #[test]
 fn refuses_wrong_moves_and_parts() -> Result<(), Fail> {
-    check(answer(&with(1, Leaf::Covered { command: 2, rank: 0 }), &[0u8; 64]) == (10, 1))?;
+    check(
+        answer(
+            &with(
+                1,
+                Leaf::Covered {
+                    command: 2,
+                    rank: 0,
+                },
+            ),
+            &[0u8; 64],
+        )
+            == (10, 1),
+    )?;
     let mut replies = [0u8; 64];
     replies[48] = 1;
     check(answer(&LEAVES, &replies) == (10, 3))?;
-    check(answer(&with(1, Leaf::Open { first: 0, second: 1 }), &[0u8; 64]) == (12, 0))?;
-    check(answer(&with(1, Leaf::Covered { command: 0, rank: 0 }), &[0u8; 64]) == (13, 1))?;
-    check(answer(&with(3, Leaf::Covered { command: 0, rank: 1 }), &[0u8; 64]) == (13, 3))
+    check(
+        answer(
+            &with(
+                1,
+                Leaf::Open {
+                    first: 0,
+                    second: 1,
+                },
+            ),
+            &[0u8; 64],
+        )
+            == (12, 0),
+    )?;
+    check(
+        answer(
+            &with(
+                1,
+                Leaf::Covered {
+                    command: 0,
+                    rank: 0,
+                },
+            ),
+            &[0u8; 64],
+        )
+            == (13, 1),
+    )?;
+    check(
+        answer(
+            &with(
+                3,
+                Leaf::Covered {
+                    command: 0,
+                    rank: 1,
+                },
+            ),
+            &[0u8; 64],
+        )
+            == (13, 3),
+    )
 }
 
 #[test]

@@ -9,7 +9,12 @@ use site::grades::Grade;
 use site::sheets::Row;
 use std::test::*;
 
-const BLANK: Row = Row { grade: Grade::Ordinary, commands: 0, events: 0, first: 0 };
+const BLANK: Row = Row {
+    grade: Grade::Ordinary,
+    commands: 0,
+    events: 0,
+    first: 0,
+};
 
 // What reading answers, as the refusal's number and place; 0 and the number of states where it accepts.
 fn answer(bytes: &[u8], rows: usize, arrows: usize) -> (usize, usize) {
@@ -32,7 +37,13 @@ fn reads_floor_b() -> Result<(), Fail> {
         Ok(size) => size,
         Err(_) => return Err(Fail::new("refused")),
     };
-    check_eq(size, TableSize { states: 4, arrows: 8 })?;
+    check_eq(
+        size,
+        TableSize {
+            states: 4,
+            arrows: 8,
+        },
+    )?;
     check(rows[2].first == 5 && rows[3].first == 7 && rows[4].commands == 0)?;
     check(arrows[1] == 1 && arrows[2] == 2 && arrows[7] == 3 && arrows[8] == 77)
 }
