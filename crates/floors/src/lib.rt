@@ -4,6 +4,8 @@ mod bytes;
 #[cfg(test)]
 mod checking;
 #[cfg(test)]
+mod kinds;
+#[cfg(test)]
 mod listing;
 #[cfg(test)]
 mod reading;
