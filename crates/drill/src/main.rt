@@ -1,18 +1,18 @@
 // Plays a script of calls on a planned floor: `drill FLOOR` reads the script from standard input.
-mod failures;
-mod floor;
+mod problems;
 mod script;
 
-use crate::failures::Failure;
-use crate::failures::FailureFromAlloc;
-use crate::failures::FailureFromFault;
-use crate::failures::FailureFromInput;
-use crate::floor::Planned;
-use crate::floor::plan_floor;
+use crate::problems::Problem;
+use crate::problems::ProblemFromAlloc;
+use crate::problems::ProblemFromFailure;
+use crate::problems::ProblemFromFault;
+use crate::problems::ProblemFromInput;
 use crate::script::read_script;
 use check::calls::Call;
 use check::playing::play;
 use check::runs::Run;
+use desk::floors::read_floor;
+use desk::planned::plan_site;
 use site::faults::Fault;
 use site::table_site::TableSite;
 use site::tables::Table;
@@ -21,7 +21,7 @@ use std::error::AnyError;
 use std::fs;
 
 // Prints what one call answered.
-fn show(rt: &LibcRuntime, call: Call, answer: Result<usize, Fault>) -> Result<(), Failure> {
+fn show(rt: &LibcRuntime, call: Call, answer: Result<usize, Fault>) -> Result<(), Problem> {
     match call {
         Call::Place { state } => print!(rt, "place {state}: ")?,
         Call::Book { event } => print!(rt, "book {event}: ")?,
@@ -43,7 +43,7 @@ fn show_run(
     rt: &LibcRuntime,
     calls: &[Call],
     answers: &[Result<usize, Fault>],
-) -> Result<(), Failure> {
+) -> Result<(), Problem> {
     let mut states = Vec::new(rt.alloc());
     for (call, answer) in calls.iter().zip(answers) {
         if let Ok(state) = answer {
@@ -61,15 +61,15 @@ fn show_run(
     Ok(())
 }
 
-fn push(states: &mut Vec<usize>, state: usize) -> Result<(), Failure> {
+fn push(states: &mut Vec<usize>, state: usize) -> Result<(), Problem> {
     match states.push(state) {
         Ok(()) => Ok(()),
-        Err(_) => Err(Failure::NoMemory),
+        Err(_) => Err(Problem::NoMemory),
     }
 }
 
 // Prints the counts of the record.
-fn show_record(rt: &LibcRuntime, run: Run) -> Result<(), Failure> {
+fn show_record(rt: &LibcRuntime, run: Run) -> Result<(), Problem> {
     match run {
         Run::Blank => println!(rt, "no run was placed")?,
         Run::Placed {
@@ -88,22 +88,16 @@ fn show_record(rt: &LibcRuntime, run: Run) -> Result<(), Failure> {
 }
 
 // Plans the floor, plays the script on it and prints what came of it.
-fn drill(rt: &LibcRuntime, floor: &[u8]) -> Result<(), Failure> {
+fn drill(rt: &LibcRuntime, bytes: &[u8]) -> Result<(), Problem> {
     let calls = read_script(rt)?;
-    let plan = plan_floor(rt.alloc(), floor)?;
-    let Planned {
-        states,
-        rows,
-        arrows,
-        leaves,
-        replies,
-    } = plan;
-    let table = Table::new(states, rows.as_slice(), arrows.as_slice());
+    let floor = read_floor(rt.alloc(), bytes)?;
+    let table = Table::new(floor.states, floor.rows.as_slice(), floor.arrows.as_slice());
+    let plan = plan_site(rt.alloc(), &table)?;
     let mut answers = vec![in rt.alloc(); Ok(0usize); calls.len()]?;
     let run = play(
         &table,
-        leaves.as_slice(),
-        replies.as_slice(),
+        plan.leaves.as_slice(),
+        plan.replies.as_slice(),
         calls.as_slice(),
         answers.as_mut_slice(),
     )?;
@@ -114,11 +108,11 @@ fn drill(rt: &LibcRuntime, floor: &[u8]) -> Result<(), Failure> {
     show_record(rt, run)
 }
 
-fn run(rt: &LibcRuntime) -> Result<(), Failure> {
+fn run(rt: &LibcRuntime) -> Result<(), Problem> {
     let mut args = env::args(rt)?;
     let _program = args.next();
     let Some(path) = args.next() else {
-        return Err(Failure::NoFloor);
+        return Err(Problem::NoFloor);
     };
     let floor = fs::read(rt, path.as_str())?;
     drill(rt, floor.as_slice())
@@ -127,21 +121,21 @@ fn run(rt: &LibcRuntime) -> Result<(), Failure> {
 fn main(rt: LibcRuntime) -> Result<(), AnyError> {
     match run(&rt) {
         Ok(()) => Ok(()),
-        Err(Failure::Refused(fault)) => {
+        Err(Problem::Refused(fault)) => {
             let number = fault.number();
             let place = fault.place();
             println!(rt, "refused {number} at {place}")?;
             Err("the floor was refused".into())
         }
-        Err(Failure::BadLine(line)) => {
+        Err(Problem::BadLine(line)) => {
             println!(
                 rt,
                 "line {line} is no call: write place, book or objection and a number"
             )?;
             Err("the script was refused".into())
         }
-        Err(Failure::NoFloor) => rt.report(Err("usage: drill FLOOR < SCRIPT".into())),
-        Err(Failure::NoMemory) => rt.report(Err("out of memory".into())),
-        Err(Failure::NoInput) => rt.report(Err("the floor or the script cannot be read".into())),
+        Err(Problem::NoFloor) => rt.report(Err("usage: drill FLOOR < SCRIPT".into())),
+        Err(Problem::NoMemory) => rt.report(Err("out of memory".into())),
+        Err(Problem::NoInput) => rt.report(Err("the floor or the script cannot be read".into())),
     }
 }

@@ -1,6 +1,6 @@
 // The script: one call to a line, as `place 2`, `book 1` or `objection 0`.
-use crate::failures::Failure;
-use crate::failures::FailureFromInput;
+use crate::problems::Problem;
+use crate::problems::ProblemFromInput;
 use check::calls::Call;
 
 // The number after the word, if the line is the word, a blank and a number.
@@ -27,17 +27,17 @@ fn parse_call(line: &str) -> Option<Call> {
 }
 
 // All calls of the script on standard input; a line without one is named by its number.
-pub(crate) fn read_script(rt: &LibcRuntime) -> Result<Vec<Call>, Failure> {
+pub(crate) fn read_script(rt: &LibcRuntime) -> Result<Vec<Call>, Problem> {
     let mut calls = Vec::new(rt.alloc());
     let mut at = 0usize;
     for line in rt.lines(rt.alloc()) {
         let line = line?;
         at = at.saturating_add(1);
         let Some(call) = parse_call(line.as_str()) else {
-            return Err(Failure::BadLine(at));
+            return Err(Problem::BadLine(at));
         };
         if calls.push(call).is_err() {
-            return Err(Failure::NoMemory);
+            return Err(Problem::NoMemory);
         }
     }
     Ok(calls)

@@ -1,22 +1,16 @@
 // Reads a floor's table from standard input, plans it, checks the plan and lists it.
-mod failures;
-mod floor;
 mod input;
+mod lines;
 
-use crate::failures::Failure;
-use crate::floor::list_floor;
 use crate::input::read_input;
+use crate::lines::list_floor;
+use desk::failures::Failure;
 use std::error::AnyError;
 use std::io::Write;
 
-// Everything from the input to the listing's bytes.
-fn listing(rt: &LibcRuntime) -> Result<Vec<u8>, Failure> {
-    let bytes = read_input(rt)?;
-    list_floor(rt.alloc(), bytes.as_slice())
-}
-
 fn main(rt: LibcRuntime) -> Result<(), AnyError> {
-    match listing(&rt) {
+    let bytes = read_input(&rt)?;
+    match list_floor(rt.alloc(), bytes.as_slice()) {
         Ok(lines) => {
             rt.stdout().write_all(lines.as_slice())?;
             Ok(())
@@ -28,6 +22,5 @@ fn main(rt: LibcRuntime) -> Result<(), AnyError> {
             Err("the floor was refused".into())
         }
         Err(Failure::NoMemory) => rt.report(Err("out of memory".into())),
-        Err(Failure::NoInput) => rt.report(Err("the input cannot be read".into())),
     }
 }

@@ -1,0 +1,2 @@
+pub mod PlannedSites
+pub mod ReadFloors

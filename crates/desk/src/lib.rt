@@ -1,0 +1,4 @@
+// What the programs share: a planned site in memory of its own, and why there is none.
+pub mod failures;
+pub mod floors;
+pub mod planned;
