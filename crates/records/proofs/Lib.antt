@@ -4,4 +4,5 @@ pub mod Putting
 pub mod Readers
 pub mod Scans
 pub mod Sound
+pub mod TablePuts
 pub mod Tables

@@ -16,7 +16,8 @@ use Rattle.site.specs.Refusals.{Refusal}
 use Rattle.site.proofs.Laid.{laid-none}
 use Rattle.check.specs.Leaves.{leaf-at}
 use Rattle.check.specs.declared.leaves.Leaf.{Leaf}
-use Rattle.records.specs.Lines.{field, replies-text, head-text, head-answer, leaf-text, line-end, own-replies, state-text, state-answer, counted, line-after}
+use Rattle.records.specs.Lines.{field, replies-text, head-text, head-answer, leaf-text, line-end, own-replies, state-text, state-answer}
+use Rattle.records.specs.Buffers.{counted, buffer-after}
 use Rattle.records.specs.Puts.{Put}
 use Rattle.records.proofs.Putting.{put-then}
 
@@ -34,14 +35,14 @@ reply-put replies i lt p q =
 pub replies-put : {start end : ℕ} {before after : List ℕ} (replies : List ℕ) (i : ℕ) → length replies ≤ i → Put start (replies-text (take i replies)) before end after → Put start (replies-text replies) before end after
 replies-put replies i le p = rw (take-all i replies le) at p
 
--- what a call that wrote its line has done
-pub record LineDone (a : Result (List ℕ) Refusal) (before : List ℕ) (r : ℕ) (after : List ℕ) : Type 0 where
+-- what a call that wrote its bytes has done
+pub record BytesDone (a : Result (List ℕ) Refusal) (before : List ℕ) (r : ℕ) (after : List ℕ) : Type 0 where
   pub answer : Ok r ≡ counted a
-  pub line : after ≡ line-after a before
+  pub bytes : after ≡ buffer-after a before
 
-pub line-put : {before after : List ℕ} {r : ℕ} (a : Result (List ℕ) Refusal) (text : List ℕ) → a ≡ Ok text → Put 0 text before r after → LineDone a before r after
-line-put a text e p =
-    record { answer = rw e (ap Ok (p .ends ∙ zero-add (length text))); line = rw e (p .lies) }
+pub bytes-put : {before after : List ℕ} {r : ℕ} (a : Result (List ℕ) Refusal) (text : List ℕ) → a ≡ Ok text → Put 0 text before r after → BytesDone a before r after
+bytes-put a text e p =
+    record { answer = rw e (ap Ok (p .ends ∙ zero-add (length text))); bytes = rw e (p .lies) }
 
 -- the first line fits a buffer of 128 bytes
 pub head-fits : (states covered left-open room : ℕ) → 128 ≤ room → head-answer states covered left-open room ≡ Ok (head-text states covered left-open)
@@ -65,7 +66,7 @@ state-fits m leaves replies s room a b c d =
     ∙ (cond-false _ _ _ (le-ltb room 128 c) ∙ cond-false _ _ _ (lt-leb (m .states) s d)))
 
 -- the line of a state, from its three pieces
-pub state-put : {before one two after : List ℕ} {first second end : ℕ} (m : Arena) (leaves : List Leaf) (replies : List ℕ) (s room : ℕ) (leaf : Leaf) (own : List ℕ) → m .states ≤ length leaves → 16 * m .states ≤ length replies → 128 ≤ room → s < m .states → leaf ≡ leaf-at leaves s → own ≡ own-replies m replies s → Put 0 (decimal s) before first one → Put first (leaf-text leaf own) one second two → Put second line-end two end after → LineDone (state-answer m leaves replies s room) before end after
+pub state-put : {before one two after : List ℕ} {first second end : ℕ} (m : Arena) (leaves : List Leaf) (replies : List ℕ) (s room : ℕ) (leaf : Leaf) (own : List ℕ) → m .states ≤ length leaves → 16 * m .states ≤ length replies → 128 ≤ room → s < m .states → leaf ≡ leaf-at leaves s → own ≡ own-replies m replies s → Put 0 (decimal s) before first one → Put first (leaf-text leaf own) one second two → Put second line-end two end after → BytesDone (state-answer m leaves replies s room) before end after
 state-put m leaves replies s room leaf own a b c d leaf-is own-is p q r =
     let text : leaf-text leaf own ≡ leaf-text (leaf-at leaves s) (own-replies m replies s) = rw (leaf-is, own-is) refl in
-    line-put (state-answer m leaves replies s room) (state-text m leaves replies s) (state-fits m leaves replies s room a b c d) (put-then p (put-then (rw text at q) r))
+    bytes-put (state-answer m leaves replies s room) (state-text m leaves replies s) (state-fits m leaves replies s room a b c d) (put-then p (put-then (rw text at q) r))

@@ -5,4 +5,6 @@ mod puts;
 pub mod reading;
 mod record_bytes;
 mod scanning;
+mod table_puts;
 pub mod table_size;
+pub mod writing;
