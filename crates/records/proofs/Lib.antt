@@ -5,4 +5,5 @@ pub mod Readers
 pub mod Scans
 pub mod Sound
 pub mod TablePuts
+pub mod TableTrips
 pub mod Tables

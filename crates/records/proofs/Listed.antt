@@ -8,17 +8,18 @@ use lib.Chars.{codes}
 use lib.ListN.{length, take, drop, getD}
 use Rattle.std.specs.declared.result.Result.{Result}
 use Rattle.std.specs.declared.result.Result.the-variants.{Ok}
-use Rattle.std.proofs.shelf.Lists.{take-more, take-all, length-take, joined-more}
+use Rattle.std.proofs.shelf.Lists.{take-more, take-all, take-at, length-take, joined-more}
 use Rattle.std.proofs.shelf.Tests.{le-ltb, lt-leb, cond-false}
 use Rattle.std.specs.Written.{decimal}
 use Rattle.site.specs.Arena.{Arena}
 use Rattle.site.specs.Refusals.{Refusal}
-use Rattle.site.proofs.Laid.{laid-none}
+use Rattle.site.proofs.Laid.{laid-none, laid-whole}
 use Rattle.check.specs.Leaves.{leaf-at}
 use Rattle.check.specs.declared.leaves.Leaf.{Leaf}
 use Rattle.records.specs.Lines.{field, replies-text, head-text, head-answer, leaf-text, line-end, own-replies, state-text, state-answer}
 use Rattle.records.specs.Buffers.{counted, buffer-after}
 use Rattle.records.specs.Puts.{Put}
+use Rattle.records.proofs.Answered.{ok-same}
 use Rattle.records.proofs.Putting.{put-then}
 
 -- nothing
@@ -43,6 +44,13 @@ pub record BytesDone (a : Result (List ℕ) Refusal) (before : List ℕ) (r : �
 pub bytes-put : {before after : List ℕ} {r : ℕ} (a : Result (List ℕ) Refusal) (text : List ℕ) → a ≡ Ok text → Put 0 text before r after → BytesDone a before r after
 bytes-put a text e p =
     record { answer = rw e (ap Ok (p .ends ∙ zero-add (length text))); bytes = rw e (p .lies) }
+
+-- the bytes at the buffer's front are those that were written
+pub bytes-there : {before after : List ℕ} {r : ℕ} (a : Result (List ℕ) Refusal) (text : List ℕ) → a ≡ Ok text → length text ≤ length before → BytesDone a before r after → take r after ≡ text
+bytes-there {before} {after} {r} a text e room d =
+    let long : r ≡ length text = ok-same (d .answer ∙ ap counted e) in
+    let lies : after ≡ text ++ drop (length text) before = d .bytes ∙ (ap (λ z. buffer-after z before) e ∙ laid-whole text before room) in
+    rw (lies, long) (take-at text (drop (length text) before) (length text) refl)
 
 -- the first line fits a buffer of 128 bytes
 pub head-fits : (states covered left-open room : ℕ) → 128 ≤ room → head-answer states covered left-open room ≡ Ok (head-text states covered left-open)

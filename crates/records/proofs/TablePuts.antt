@@ -64,8 +64,13 @@ arrow-put m s i v leads p q = rw add-one (put-then p (rw leads at q))
 pub state-put : {start at mid end : ℕ} {before now then after : List ℕ} (m : Arena) (k : ℕ) → Put start (states-bytes m k) before at now → Put at (row-bytes m k) now mid then → Put mid (arrows-bytes m k (moves m k)) then end after → Put start (states-bytes m (k + 1)) before end after
 state-put m k p q r = rw add-one (put-then p (put-then q r))
 
--- the whole table of a site that is small enough
+-- a site that is small enough has its table
+pub table-fits : (m : Arena) (room : ℕ) → table-long m ≤ room → m .states ≤ 1024 → arrows-to m (m .states) ≤ 16384 → table-answer m room ≡ Ok (table-bytes m)
+table-fits m room fits states arrows =
+    cond-false _ _ _ (le-ltb room (table-long m) fits)
+    ∙ cond-false _ _ _ (or-from _ _ (le-ltb 1024 (m .states) states) (le-ltb 16384 (arrows-to m (m .states)) arrows))
+
+-- the whole table
 pub table-put : {at end : ℕ} {before now after : List ℕ} (m : Arena) (room n : ℕ) → n ≡ m .states → table-long m ≤ room → m .states ≤ 1024 → arrows-to m (m .states) ≤ 16384 → Put 0 (numbered 1 n) before at now → Put at (states-bytes m (m .states)) now end after → BytesDone (table-answer m room) before end after
 table-put m room n n-is fits states arrows p q =
-    let e : table-answer m room ≡ Ok (table-bytes m) = cond-false _ _ _ (le-ltb room (table-long m) fits) ∙ cond-false _ _ _ (or-from _ _ (le-ltb 1024 (m .states) states) (le-ltb 16384 (arrows-to m (m .states)) arrows)) in
-    bytes-put (table-answer m room) (table-bytes m) e (put-then (rw n-is at p) q)
+    bytes-put (table-answer m room) (table-bytes m) (table-fits m room fits states arrows) (put-then (rw n-is at p) q)

@@ -5,4 +5,5 @@ pub mod Repeated
 pub mod Scanning
 pub mod TableBytes
 pub mod TableRead
+pub mod TableTrip
 pub mod TableWritten
