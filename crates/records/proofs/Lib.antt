@@ -5,5 +5,6 @@ pub mod Readers
 pub mod Scans
 pub mod Sound
 pub mod TablePuts
+pub mod TableSpelled
 pub mod TableTrips
 pub mod Tables

@@ -156,7 +156,7 @@ aim-of m s a b lt =
     let e = m .events s in
     ap (λ x. m .next s x ((a * e + b) % e)) (digits-div a lt) ∙ ap (λ x. m .next s a x) (digits-mod a lt)
 
-grade-back : (g : ℕ) → g ≤ 2 → grade-number (numbered-grade g) ≡ g
+pub grade-back : (g : ℕ) → g ≤ 2 → grade-number (numbered-grade g) ≡ g
 grade-back zero le = refl
 grade-back (suc zero) le = refl
 grade-back (suc (suc zero)) le = refl
