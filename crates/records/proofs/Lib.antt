@@ -1,4 +1,6 @@
 pub mod Answered
+pub mod BookPuts
+pub mod BookReaders
 pub mod Listed
 pub mod Putting
 pub mod Readers

@@ -4,11 +4,10 @@ use native.Mathlib.Nat.{zero-add, add-zero}
 use native.Mathlib.Omega.{arith}
 use mathlib.Core.Path.{_≡_, refl, sym, _∙_, ap}
 use mathlib.Core.List.{List, [], _++_}
-use lib.Chars.{codes}
-use lib.ListN.{length, take, drop, getD}
+use lib.ListN.{length, take, drop}
 use Rattle.std.specs.declared.result.Result.{Result}
 use Rattle.std.specs.declared.result.Result.the-variants.{Ok}
-use Rattle.std.proofs.shelf.Lists.{take-more, take-all, take-at, length-take, joined-more}
+use Rattle.std.proofs.shelf.Lists.{take-at, length-take}
 use Rattle.std.proofs.shelf.Tests.{le-ltb, lt-leb, cond-false}
 use Rattle.std.specs.Written.{decimal}
 use Rattle.site.specs.Arena.{Arena}
@@ -16,7 +15,7 @@ use Rattle.site.specs.Refusals.{Refusal}
 use Rattle.site.proofs.Laid.{laid-none, laid-whole}
 use Rattle.check.specs.Leaves.{leaf-at}
 use Rattle.check.specs.declared.leaves.Leaf.{Leaf}
-use Rattle.records.specs.Lines.{field, replies-text, head-text, head-answer, leaf-text, line-end, own-replies, state-text, state-answer}
+use Rattle.records.specs.Lines.{head-text, head-answer, leaf-text, line-end, own-replies, state-text, state-answer}
 use Rattle.records.specs.Buffers.{counted, buffer-after}
 use Rattle.records.specs.Puts.{Put}
 use Rattle.records.proofs.Answered.{ok-same}
@@ -25,16 +24,6 @@ use Rattle.records.proofs.Putting.{put-then}
 -- nothing
 pub put-none : (at : ℕ) (before : List ℕ) → Put at [] before at before
 put-none at before = record { ends = sym (add-zero at); lies = sym (laid-none at before) }
-
--- one reply more
-pub reply-put : {start at end : ℕ} {before now after : List ℕ} (replies : List ℕ) (i : ℕ) → i < length replies → Put start (replies-text (take i replies)) before at now → Put at (field (codes " ") (getD replies i 0)) now end after → Put start (replies-text (take (i + 1) replies)) before end after
-reply-put replies i lt p q =
-    let more : replies-text (take (i + 1) replies) ≡ replies-text (take i replies) ++ field (codes " ") (getD replies i 0) = ap replies-text (take-more replies i 0 lt) ∙ sym (joined-more (field (codes " ")) [] (take i replies) (getD replies i 0)) in
-    rw more (put-then p q)
-
--- all of them
-pub replies-put : {start end : ℕ} {before after : List ℕ} (replies : List ℕ) (i : ℕ) → length replies ≤ i → Put start (replies-text (take i replies)) before end after → Put start (replies-text replies) before end after
-replies-put replies i le p = rw (take-all i replies le) at p
 
 -- what a call that wrote its bytes has done
 pub record BytesDone (a : Result (List ℕ) Refusal) (before : List ℕ) (r : ℕ) (after : List ℕ) : Type 0 where

@@ -1,4 +1,7 @@
-// Records: a table as bytes, and the lines of a listing.
+// Records: a table and a book as bytes, and the lines of a listing.
+mod book_puts;
+mod book_records;
+pub mod book_writing;
 mod leaf_line;
 pub mod listing;
 mod puts;
