@@ -12,7 +12,7 @@ use Rattle.records.specs.TableBytes.{two-bytes}
 use Rattle.records.specs.BookBytes.{book-head-in, leaf-in, reply-in}
 
 -- the site's number of states
-pub book-head-read : (n v : ℕ) (bs : List ℕ) → 3 ≤ length bs → getD bs 0 0 ≡ 17 → v ≡ two-bytes (getD bs 1 0) (getD bs 2 0) → v ≡ n → book-head-in n bs ≡ Ok (record { what = v; left = take (length bs - 3) (drop 3 bs) })
+pub book-head-read : (n v : ℕ) (bs : List ℕ) → 3 ≤ length bs → getD bs 0 0 ≡ 17 → v ≡ two-bytes (getD bs 1 0) (getD bs 2 0) → v ≡ n → book-head-in n bs ≡ Ok (take (length bs - 3) (drop 3 bs))
 book-head-read n v [] len kind val same = absurd (omega arith)
 book-head-read n v (k ∷ []) len kind val same = absurd (omega arith)
 book-head-read n v (k ∷ (hi ∷ [])) len kind val same = absurd (omega arith)

@@ -1,6 +1,8 @@
 pub mod Answered
 pub mod BookPuts
 pub mod BookReaders
+pub mod BookScans
+pub mod Books
 pub mod Listed
 pub mod Putting
 pub mod Readers

@@ -14,15 +14,15 @@ use Rattle.check.specs.declared.leaves.Leaf.the-variants.{Covered, Open}
 use Rattle.records.specs.Repeated.{repeated}
 use Rattle.records.specs.TableBytes.{two-bytes, Found, of-kind}
 
--- the head's body, the number of states in two bytes: that of the site (else 3)
-abbrev pub book-head-body : ℕ → List ℕ → Result (Found ℕ) Refusal
+-- the head's body, the number of states in two bytes: that of the site (else 3). What is left comes after it
+abbrev pub book-head-body : ℕ → List ℕ → Result (List ℕ) Refusal
 book-head-body n [] = refuse 1 0
 book-head-body n (hi ∷ []) = refuse 1 0
 book-head-body n (hi ∷ (lo ∷ left)) =
-    unless (not (eqb (two-bytes hi lo) n)) 3 0 (Ok (record { what = two-bytes hi lo; left = left }))
+    unless (not (eqb (two-bytes hi lo) n)) 3 0 (Ok left)
 
 -- the head is of kind 17 (hexadecimal 11)
-abbrev pub book-head-in : ℕ → List ℕ → Result (Found ℕ) Refusal
+abbrev pub book-head-in : ℕ → List ℕ → Result (List ℕ) Refusal
 book-head-in n = of-kind 17 0 (book-head-body n)
 
 -- a covered leaf's body: the command, and the rank in two bytes
@@ -106,4 +106,4 @@ book-ended rd = unless (ltb 0 (length (rd .left))) 8 (rd .at) (Ok rd)
 -- a whole book of the site: the head, a leaf for each state, and nothing after them
 abbrev pub book-in : Arena → List ℕ → Result BookRead Refusal
 book-in m bs =
-    and-then (book-head-in (m .states) bs) (λ head. and-then (leaves-in m (m .states) (head .left)) book-ended)
+    and-then (book-head-in (m .states) bs) (λ left. and-then (leaves-in m (m .states) left) book-ended)

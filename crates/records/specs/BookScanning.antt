@@ -38,7 +38,8 @@ pub record LeavesDone (m : Arena) (bs : List ℕ) (old-leaves : List Leaf) (old-
 pub record BookDone (m : Arena) (bs : List ℕ) (old-leaves : List Leaf) (old-replies : List ℕ) (n : ℕ) (new-leaves : List Leaf) (new-replies : List ℕ) : Type 0 where
   pub found : BookRead
   pub read : book-in m bs ≡ Ok found
-  pub measures : n ≡ length (found .leaves)
+  pub measures : n ≡ m .states
+  pub many : length (found .leaves) ≡ m .states
   pub leaf-sheet : new-leaves ≡ laid 0 (found .leaves) old-leaves
   pub reply-sheet : new-replies ≡ spread 0 (found .replies) old-replies
 

@@ -16,8 +16,8 @@ const OPEN: u8 = 0x13;
 const REPLY: u8 = 0x14;
 
 // The number of states, at the very front: it is that of the site.
-pub(crate) fn read_book_head(states: usize, bytes: &[u8]) -> Result<(usize, &[u8]), Fault>
-    ensures { λ r. ⌜ elim r [ Ok p ↦ book-head-in states (now (bytes .entry)) ≡ Ok (record { what = p .0; left = now (p .1) }) | Err f ↦ book-head-in states (now (bytes .entry)) ≡ Err (told f) ] ⌝ }
+pub(crate) fn read_book_head(states: usize, bytes: &[u8]) -> Result<&[u8], Fault>
+    ensures { λ r. ⌜ elim r [ Ok p ↦ book-head-in states (now (bytes .entry)) ≡ Ok (now p) | Err f ↦ book-head-in states (now (bytes .entry)) ≡ Err (told f) ] ⌝ }
 {
     match bytes {
         [BOOK, hi, lo, left @ ..] => {
@@ -25,7 +25,7 @@ pub(crate) fn read_book_head(states: usize, bytes: &[u8]) -> Result<(usize, &[u8
             if found != states {
                 return Err(Fault::StateCount);
             }
-            Ok((found, left))
+            Ok(left)
         }
         [] | [BOOK, ..] => Err(Fault::BytesEnd { at: 0 }),
         _ => Err(Fault::OtherKind { at: 0 }),

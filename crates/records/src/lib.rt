@@ -1,6 +1,8 @@
 // Records: a table and a book as bytes, and the lines of a listing.
 mod book_puts;
+pub mod book_reading;
 mod book_records;
+mod book_scanning;
 pub mod book_writing;
 mod leaf_line;
 pub mod listing;
