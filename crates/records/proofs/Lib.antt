@@ -2,6 +2,7 @@ pub mod Answered
 pub mod BookPuts
 pub mod BookReaders
 pub mod BookScans
+pub mod BookTrips
 pub mod Books
 pub mod Listed
 pub mod Putting

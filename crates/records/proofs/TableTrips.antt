@@ -25,7 +25,7 @@ use Rattle.records.proofs.Listed.{BytesDone, bytes-there}
 use Rattle.records.proofs.TablePuts.{aim-below, arrows-to-grows, table-fits, table-bytes-long}
 
 -- two bytes are their number
-two-back : (v : ℕ) → two-bytes (v / 256) (v % 256) ≡ v
+pub two-back : (v : ℕ) → two-bytes (v / 256) (v % 256) ≡ v
 two-back v = div-add-mod v 256
 
 -- the rows, the arrows of a state, and all arrows

@@ -1,6 +1,7 @@
 pub mod BookBytes
 pub mod BookRead
 pub mod BookScanning
+pub mod BookTrip
 pub mod BookWritten
 pub mod Buffers
 pub mod Lines

@@ -1,7 +1,9 @@
 // Writing leaves and replies as the bytes of a book.
 ghost use mathlib.Core.Path.{_≡_};
-ghost use lib.ListN.{length};
+ghost use lib.ListN.{length, take};
+ghost use Rattle.std.specs.Vec.{made};
 ghost use Rattle.site.specs.Refusals.{answered};
+ghost use Rattle.records.specs.BookTrip.{BookBack};
 ghost use Rattle.records.specs.BookWritten.{book-answer};
 ghost use Rattle.records.specs.Buffers.{counted, buffer-after};
 use crate::book_puts::leaves_room;
@@ -23,6 +25,7 @@ pub fn write_book<S: Site>(
 ) -> Result<usize, Fault>
     ensures answer { λ r. ⌜ answered r ≡ counted (book-answer (S·Site .arena (now (site .entry))) (now (leaves .entry)) (now (replies .entry)) (length (now (buffer .entry)))) ⌝ }
     ensures bytes { λ r. ⌜ now (buffer .exit) ≡ buffer-after (book-answer (S·Site .arena (now (site .entry))) (now (leaves .entry)) (now (replies .entry)) (length (now (buffer .entry)))) (now (buffer .entry)) ⌝ }
+    ensures trip { λ r. ⌜ made r (λ n. BookBack (S·Site .arena (now (site .entry))) (now (leaves .entry)) (now (replies .entry)) (take n (now (buffer .exit)))) ⌝ }
 {
     let states = site.states();
     if leaves.len() < states {
