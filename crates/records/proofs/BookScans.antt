@@ -12,7 +12,7 @@ use Rattle.std.specs.declared.result.Result.{Result}
 use Rattle.std.specs.declared.result.Result.the-variants.{Ok, Err}
 use Rattle.std.proofs.shelf.Lists.{length-push, length-append}
 use Rattle.std.proofs.shelf.Tests.{cases-bool, cond-true, cond-false}
-use Rattle.site.proofs.Laid.{laid-push, laid-none}
+use Rattle.site.proofs.Laid.{laid-push, laid-none, length-laid}
 use Rattle.site.specs.Arena.{Arena}
 use Rattle.site.specs.Laid.{laid}
 use Rattle.site.specs.Refusals.{Refusal}
@@ -130,3 +130,7 @@ module _ {m : Arena} {bs : List ℕ} {old-leaves : List Leaf} {old-replies : Lis
 pub few-due : (leaf : Leaf) (c : ℕ) → c ≤ 16 → replies-due leaf c ≤ 16
 few-due (Covered a r) c le = omega arith
 few-due (Open u w) c le = le
+
+pub length-spread : (s : ℕ) (rs : List (List ℕ)) (sheet : List ℕ) → length (spread s rs sheet) ≡ length sheet
+length-spread s [] sheet = refl
+length-spread s (r ∷ rs) sheet = length-spread (suc s) rs (laid (16 * s) r sheet) ∙ length-laid (16 * s) r sheet

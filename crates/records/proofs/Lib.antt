@@ -2,6 +2,7 @@ pub mod Answered
 pub mod BookPuts
 pub mod BookReaders
 pub mod BookScans
+pub mod BookSpelled
 pub mod BookTrips
 pub mod Books
 pub mod Listed

@@ -31,11 +31,11 @@ use Rattle.records.proofs.Sound.{Sound, state-step, states-sound, AimsSound, a
 use Rattle.records.proofs.TableTrips.{grade-back}
 
 -- a number of one byte
-abbrev Byte : ℕ → Type 0
+abbrev pub Byte : ℕ → Type 0
 Byte b = b < 256
 
 -- the bytes after others
-all-after : (xs ys : List ℕ) → All Byte (xs ++ ys) → All Byte ys
+pub all-after : (xs ys : List ℕ) → All Byte (xs ++ ys) → All Byte ys
 all-after [] ys h = h
 all-after (x ∷ xs) ys h = all-after xs ys (h .1)
 
@@ -45,7 +45,7 @@ kind-is kind at k body bs x e =
     eqb-true k kind (not-false (eqb k kind) (unless-ok (not (eqb k kind)) 2 at (body bs) x e .0))
 
 -- two bytes are those of their number
-two-spelled : (kind hi lo v : ℕ) (z : List ℕ) → Byte lo → two-bytes hi lo ≡ v → kind ∷ (hi ∷ (lo ∷ z)) ≡ numbered kind v ++ z
+pub two-spelled : (kind hi lo v : ℕ) (z : List ℕ) → Byte lo → two-bytes hi lo ≡ v → kind ∷ (hi ∷ (lo ∷ z)) ≡ numbered kind v ++ z
 two-spelled kind hi lo v z small e =
     let high : hi ≡ v / 256 = omega (arith, e) in
     let low : lo ≡ v % 256 = omega (arith, e) in
