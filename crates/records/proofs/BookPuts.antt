@@ -2,8 +2,8 @@
 use Prim.Native.Nat.{ℕ, zero, suc, _+_, _*_, _<_, _≤_}
 use native.Mathlib.Numerals.{add-one}
 use native.Mathlib.Omega.{arith}
-use mathlib.Core.Path.{_≡_, refl, sym, _∙_, ap}
-use mathlib.Core.List.{List, [], _∷_, _++_}
+use mathlib.Core.Path.{_≡_, refl, _∙_, ap}
+use mathlib.Core.List.{List, [], _∷_}
 use mathlib.Core.Logic.{inl, inr}
 use lib.ListN.{length}
 use Rattle.std.specs.Joined.{joined}
@@ -18,7 +18,7 @@ use Rattle.records.specs.BookWritten.{reply-bytes, leaf-bytes, leaves-bytes, b
 use Rattle.records.specs.Lines.{own-replies}
 use Rattle.records.specs.Puts.{Put}
 use Rattle.records.specs.TableWritten.{numbered}
-use Rattle.records.proofs.Listed.{BytesDone, bytes-put, own-are}
+use Rattle.records.proofs.Listed.{BytesDone, bytes-put}
 use Rattle.records.proofs.Putting.{put-then}
 
 -- a reply takes two bytes

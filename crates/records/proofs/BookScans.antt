@@ -3,14 +3,13 @@ use Prim.Native.Nat.{ℕ, suc, _+_, _*_, _<_, _≤_}
 use native.Mathlib.Nat.{zero-add, add-zero, add-suc, suc-add}
 use native.Mathlib.Omega.{arith}
 use mathlib.Core.Path.{_≡_, refl, sym, _∙_, ap}
-use mathlib.Core.Bool.{Bool, true, false, cond, not}
 use mathlib.Core.List.{List, [], _∷_, _++_}
 use mathlib.Core.Logic.{inl, inr}
 use lib.Dec.{eqb}
 use lib.ListN.{length, set}
 use Rattle.std.specs.declared.result.Result.{Result}
 use Rattle.std.specs.declared.result.Result.the-variants.{Ok, Err}
-use Rattle.std.proofs.shelf.Lists.{length-push, length-append}
+use Rattle.std.proofs.shelf.Lists.{length-push}
 use Rattle.std.proofs.shelf.Tests.{cases-bool, cond-true, cond-false}
 use Rattle.site.proofs.Laid.{laid-push, laid-none, length-laid}
 use Rattle.site.specs.Arena.{Arena}
@@ -18,7 +17,7 @@ use Rattle.site.specs.Laid.{laid}
 use Rattle.site.specs.Refusals.{Refusal}
 use Rattle.check.specs.declared.leaves.Leaf.{Leaf}
 use Rattle.check.specs.declared.leaves.Leaf.the-variants.{Covered, Open}
-use Rattle.records.specs.TableBytes.{Found, of-kind}
+use Rattle.records.specs.TableBytes.{Found}
 use Rattle.records.specs.BookBytes.{covered-body, open-body, leaf-in, leaf-width, replies-due, reply-body, reply-in, one-reply, replies-in, one-leaf, leaves-in}
 use Rattle.records.specs.BookRead.{spread}
 use Rattle.records.specs.BookScanning.{RepliesDone, LeavesDone}

@@ -1,15 +1,14 @@
 -- A book that was read is written again as the same bytes.
-use Prim.Native.Nat.{ℕ, zero, suc, _+_, _*_, _/_, _%_, _<_, _≤_}
+use Prim.Native.Nat.{ℕ, suc, _+_, _*_, _/_, _%_, _<_, _≤_}
 use native.Mathlib.Nat.{zero-add}
 use native.Mathlib.Omega.{arith}
 use mathlib.Core.Path.{_≡_, refl, sym, _∙_, ap, subst}
-use mathlib.Core.Bool.{true, false, not}
+use mathlib.Core.Bool.{not}
 use mathlib.Core.List.{List, [], _∷_, _++_}
 use mathlib.Core.Logic.{inl, inr}
 use lib.Dec.{eqb, ltb}
-use lib.ListN.{length, take, drop, getD}
+use lib.ListN.{length, drop, getD}
 use Rattle.std.specs.Joined.{joined}
-use Rattle.std.specs.declared.result.Result.{Result}
 use Rattle.std.specs.declared.result.Result.the-variants.{Ok}
 use Rattle.std.specs.shelf.Lists.{All}
 use Rattle.std.proofs.shelf.Lists.{append-assoc, append-nil, joined-more, length-push, getD-append-left, getD-push, getD-take, getD-drop, nil-from-length, ext-getD}
@@ -28,7 +27,7 @@ use Rattle.records.specs.BookWritten.{reply-bytes, leaf-bytes, leaves-bytes, b
 use Rattle.records.specs.Lines.{own-replies}
 use Rattle.records.proofs.Answered.{ok-same, unless-ok, and-then-ok, repeated-keeps}
 use Rattle.records.proofs.BookPuts.{own-long}
-use Rattle.records.proofs.BookScans.{few-due, length-spread}
+use Rattle.records.proofs.BookScans.{length-spread}
 use Rattle.records.proofs.BookTrips.{spread-there}
 use Rattle.records.proofs.Scans.{of-kind-ok}
 use Rattle.records.proofs.TableSpelled.{Byte, all-after, kind-is, two-spelled}
@@ -179,10 +178,10 @@ laid-wrote m law rd leaves replies many-leaves many-replies due leaf-room reply-
     let leaf-is : leaf-at new-leaves s ≡ leaf = ap (λ j. leaf-at new-leaves j) (sym (zero-add s)) ∙ laid-within 0 (rd .leaves) leaves s (Covered 0 0) (rw many-leaves lt) (omega (arith, many-leaves)) in
     let own : length (own-replies m new s) ≡ c = own-long m law new s lt (rw (length-spread 0 (rd .replies) replies) reply-room) in
     let same : length es ≡ c → own-replies m new s ≡ es = λ long. ext-getD 0 (own-replies m new s) es (own ∙ sym long) (λ a among.
-        let a< : a < c = omega (arith, own) in
-        getD-take c (drop (16 * s) new) a 0 a<
-        ∙ (getD-drop (16 * s) new a 0
-        ∙ (ap (λ j. getD new (16 * j + a) 0) (sym (zero-add s)) ∙ spread-there 0 (rd .replies) replies s a (rw many-replies lt) (rw (many-replies, zero-add) reply-room) (omega (arith, long, law .few-commands s)) (omega (arith, long))))) in
+    let a< : a < c = omega (arith, own) in
+    getD-take c (drop (16 * s) new) a 0 a<
+    ∙ (getD-drop (16 * s) new a 0
+    ∙ (ap (λ j. getD new (16 * j + a) 0) (sym (zero-add s)) ∙ spread-there 0 (rd .replies) replies s a (rw many-replies lt) (rw (many-replies, zero-add) reply-room) (omega (arith, long, law .few-commands s)) (omega (arith, long))))) in
     ap (λ l. leaf-bytes l (own-replies m new s)) leaf-is ∙ own-alike leaf c (own-replies m new s) es (due s lt) same
 
 book-head-body-spelled : (n : ℕ) (bs left : List ℕ) → All Byte bs → book-head-body n bs ≡ Ok left → 17 ∷ bs ≡ numbered 17 n ++ left

@@ -1,10 +1,10 @@
 -- A book that was written is read back: record by record, whatever bytes follow.
-use Prim.Native.Nat.{ℕ, zero, suc, _+_, _*_, _/_, _%_, _<_, _≤_}
-use native.Mathlib.Nat.{add-zero, zero-add}
+use Prim.Native.Nat.{ℕ, zero, suc, _+_, _*_, _<_, _≤_}
+use native.Mathlib.Nat.{zero-add}
 use native.Mathlib.Numerals.{add-one}
 use native.Mathlib.Omega.{arith}
 use mathlib.Core.Path.{_≡_, refl, sym, _∙_, ap}
-use mathlib.Core.Bool.{Bool, true, false}
+use mathlib.Core.Bool.{false}
 use mathlib.Core.List.{List, [], _∷_, _++_}
 use mathlib.Core.Logic.{inl, inr}
 use lib.ListN.{length, take, drop, getD}
@@ -15,10 +15,10 @@ use Rattle.std.proofs.shelf.Tests.{cases-eq, eq-eqb}
 use Rattle.site.specs.Arena.{Arena, Lawful}
 use Rattle.site.specs.Laid.{laid}
 use Rattle.site.proofs.Laid.{laid-before, laid-within, length-laid}
-use Rattle.check.specs.Leaves.{leaf-at, reply-at, is-covered}
+use Rattle.check.specs.Leaves.{leaf-at, is-covered}
 use Rattle.check.specs.declared.leaves.Leaf.{Leaf}
 use Rattle.check.specs.declared.leaves.Leaf.the-variants.{Covered, Open}
-use Rattle.records.specs.BookBytes.{book-head-in, leaf-in, leaf-width, replies-due, reply-in, one-reply, replies-in, BookRead, one-leaf, leaves-in, book-ended, book-in}
+use Rattle.records.specs.BookBytes.{book-head-in, one-reply, replies-in, BookRead, one-leaf, leaves-in, book-ended, book-in}
 use Rattle.records.specs.BookRead.{spread}
 use Rattle.records.specs.BookTrip.{BookBack}
 use Rattle.records.specs.BookWritten.{reply-bytes, leaf-bytes, leaves-bytes, book-bytes, leaf-long, leaves-long, book-long, book-answer}

@@ -1,10 +1,10 @@
 -- A table that was read is written again as the same bytes.
 use Prim.Native.Nat.{ℕ, zero, suc, _+_, _*_, _/_, _%_, _<_, _≤_}
-use native.Mathlib.Nat.{zero-add, add-assoc, div-add-mod', mod-lt}
+use native.Mathlib.Nat.{zero-add, div-add-mod', mod-lt}
 use native.Mathlib.Numerals.{add-one}
 use native.Mathlib.Omega.{arith}
 use mathlib.Core.Path.{_≡_, refl, sym, _∙_, ap, subst}
-use mathlib.Core.Bool.{Bool, true, false, not, _||_}
+use mathlib.Core.Bool.{not, _||_}
 use mathlib.Core.List.{List, [], _∷_, _++_}
 use lib.Dec.{eqb, leb, ltb}
 use lib.ListN.{length, take, getD}
@@ -13,8 +13,8 @@ use Rattle.std.specs.declared.result.Result.{Result}
 use Rattle.std.specs.declared.result.Result.the-variants.{Ok}
 use Rattle.std.specs.shelf.Lists.{All}
 use Rattle.std.proofs.shelf.Bits.{div-below}
-use Rattle.std.proofs.shelf.Lists.{append-assoc, append-nil, joined-more, length-append, getD-append-left, getD-append-add, getD-push, nil-from-length, take-more, take-all}
-use Rattle.std.proofs.shelf.Tests.{not-false, eqb-true, ltb-false, leb-false}
+use Rattle.std.proofs.shelf.Lists.{append-assoc, append-nil, joined-more, getD-append-left, getD-append-add, getD-push, nil-from-length, take-more, take-all}
+use Rattle.std.proofs.shelf.Tests.{not-false, eqb-true, ltb-false}
 use Rattle.site.specs.Arena.{Arena}
 use Rattle.site.specs.Grades.{grade-number}
 use Rattle.site.specs.Laid.{laid}
@@ -27,7 +27,7 @@ use Rattle.site.proofs.Laid.{laid-within}
 use Rattle.records.specs.TableBytes.{Found, two-bytes, of-kind, head-body, head-in, numbered-grade, bad-count, row-of, row-body, row-in, arrow-body, arrow-in, Arrows, one-arrow, arrows-in, Read, one-state, states-in, ended, table-in}
 use Rattle.records.specs.TableWritten.{numbered, aim, arrows-bytes, row-bytes, moves, states-bytes, table-bytes}
 use Rattle.records.proofs.Answered.{ok-same, unless-ok, and-then-ok, repeated-keeps}
-use Rattle.records.proofs.Sound.{Sound, state-step, states-sound, AimsSound, arrows-sound, arrows-same}
+use Rattle.records.proofs.Sound.{Sound, state-step, arrows-sound, arrows-same}
 use Rattle.records.proofs.TableTrips.{grade-back}
 
 -- a number of one byte

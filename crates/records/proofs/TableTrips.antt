@@ -1,23 +1,25 @@
 -- A table that was written is read back: record by record, whatever bytes follow.
 use Prim.Native.Nat.{ℕ, zero, suc, _+_, _*_, _/_, _%_, _<_, _≤_}
-use native.Mathlib.Nat.{div-add-mod, suc-mul, mul-le-mul-right}
+use native.Mathlib.Nat.{zero-add, div-add-mod, suc-mul, mul-le-mul-right}
 use native.Mathlib.Omega.{arith}
 use mathlib.Core.Path.{_≡_, refl, sym, _∙_, ap}
-use mathlib.Core.Bool.{Bool, true, false, cond, _||_}
+use mathlib.Core.Bool.{false, _||_}
 use mathlib.Core.List.{List, [], _∷_, _++_}
 use mathlib.Core.Logic.{inl, inr}
 use lib.Arith.{digits-div, digits-mod}
-use lib.Dec.{eqb, leb, ltb}
+use lib.Dec.{eqb, ltb}
 use lib.ListN.{length, take, getD}
 use Rattle.std.specs.declared.result.Result.the-variants.{Ok}
 use Rattle.std.proofs.shelf.Lists.{append-assoc, append-nil, length-append, length-push, getD-append-left, getD-append-add, getD-push}
-use Rattle.std.proofs.shelf.Tests.{cases-eq, cases-lt, cond-false, cond-true, le-ltb, lt-ltb, lt-leb, ne-eqb, or-from}
+use Rattle.std.proofs.shelf.Tests.{cases-eq, cases-lt, le-ltb, lt-leb, ne-eqb, or-from}
 use Rattle.site.specs.Arena.{Arena, Lawful}
 use Rattle.site.specs.Grades.{grade-number}
-use Rattle.site.specs.Tables.{no-row, row-at, has-move, table}
+use Rattle.site.specs.Laid.{laid}
+use Rattle.site.proofs.Laid.{laid-within}
+use Rattle.site.specs.Tables.{no-row, row-at, table}
 use Rattle.site.specs.TableLaws.{cond-within, cond-past, own-arrow, no-own-command, no-own-event}
 use Rattle.site.specs.declared.sheets.Row.{Row}
-use Rattle.records.specs.TableBytes.{two-bytes, head-in, numbered-grade, bad-count, row-of, row-in, arrow-in, one-arrow, arrows-in, Read, one-state, states-in, ended, table-in}
+use Rattle.records.specs.TableBytes.{two-bytes, head-in, numbered-grade, bad-count, row-in, arrow-in, one-arrow, arrows-in, Read, one-state, states-in, ended, table-in}
 use Rattle.records.specs.TableTrip.{Alike, ReadBack}
 use Rattle.records.specs.TableWritten.{numbered, aim, arrows-bytes, row-bytes, moves, states-bytes, table-bytes, arrows-to, table-long, table-answer}
 use Rattle.records.proofs.Answered.{after-ok}
@@ -162,40 +164,40 @@ grade-back (suc zero) le = refl
 grade-back (suc (suc zero)) le = refl
 grade-back (suc (suc (suc g))) le = absurd (omega arith)
 
-module _ (m : Arena) (law : Lawful m) where
+-- sheets that have the rows and the arrows of m stand for a site like m
+module _ (m : Arena) (law : Lawful m) (rows : List Row) (arrows : List ℕ) (rows-are : (s : ℕ) → s < m .states → row-at rows s ≡ table-row m s) (arrows-are : (s i : ℕ) → s < m .states → i < moves m s → getD arrows (arrows-to m s + i) 0 ≡ aim m s i) where
   abbrev again : Arena
-  again = table (m .states) (table-rows m (m .states)) (table-aims m (m .states))
+  again = table (m .states) rows arrows
 
   grade-alike : (s : ℕ) → again .grade s ≡ m .grade s
   grade-alike s =
       elim (cases-lt s (m .states)) [
-        | inl lt ↦ cond-within s (m .states) _ lt ∙ (ap (λ r. grade-number (r .grade)) (row-there m (m .states) s lt) ∙ grade-back (m .grade s) (law .few-grades s))
+        | inl lt ↦ cond-within s (m .states) _ lt ∙ (ap (λ r. grade-number (r .grade)) (rows-are s lt) ∙ grade-back (m .grade s) (law .few-grades s))
         | inr past ↦ cond-past s (m .states) _ past ∙ sym (law .no-grade s past)
       ]
 
   commands-alike : (s : ℕ) → again .commands s ≡ m .commands s
   commands-alike s =
       elim (cases-lt s (m .states)) [
-        | inl lt ↦ cond-within s (m .states) _ lt ∙ ap (λ r. r .commands) (row-there m (m .states) s lt)
+        | inl lt ↦ cond-within s (m .states) _ lt ∙ ap (λ r. r .commands) (rows-are s lt)
         | inr past ↦ cond-past s (m .states) _ past ∙ sym (law .no-commands s past)
       ]
 
   events-alike : (s : ℕ) → again .events s ≡ m .events s
   events-alike s =
       elim (cases-lt s (m .states)) [
-        | inl lt ↦ cond-within s (m .states) _ lt ∙ ap (λ r. r .events) (row-there m (m .states) s lt)
+        | inl lt ↦ cond-within s (m .states) _ lt ∙ ap (λ r. r .events) (rows-are s lt)
         | inr past ↦ cond-past s (m .states) _ past ∙ sym (law .no-events s past)
       ]
 
   arrow-alike : (s a b : ℕ) → s < m .states → a < m .commands s → b < m .events s → again .next s a b ≡ m .next s a b
   arrow-alike s a b s< a< b< =
       let n = m .states in
-      let aims = table-aims m n in
-      let there = row-there m n s s< in
+      let there = rows-are s s< in
       let up : a * m .events s + m .events s ≤ moves m s = rw (← suc-mul) (mul-le-mul-right (m .events s) a<) in
-      own-arrow n (table-rows m n) aims s a b s< (rw there a<) (rw there b<)
-      ∙ (ap (λ r. getD aims (r .first + (a * r .events + b)) 0) there
-      ∙ (arrow-there m n s (a * m .events s + b) s< (omega arith) ∙ aim-of m s a b b<))
+      own-arrow n rows arrows s a b s< (rw there a<) (rw there b<)
+      ∙ (ap (λ r. getD arrows (r .first + (a * r .events + b)) 0) there
+      ∙ (arrows-are s (a * m .events s + b) s< (omega arith) ∙ aim-of m s a b b<))
 
   next-alike : (s a b : ℕ) → again .next s a b ≡ m .next s a b
   next-alike s a b =
@@ -208,14 +210,29 @@ module _ (m : Arena) (law : Lawful m) where
                     | inl s< ↦ arrow-alike s a b s< a< b<
                     | inr past ↦ absurd (omega (arith, law .no-commands s past))
                   ]
-              | inr le ↦ no-own-event n (table-rows m n) (table-aims m n) s a b (rw (events-alike s) le) ∙ sym (law .no-event s a b le)
+              | inr le ↦ no-own-event n rows arrows s a b (rw (events-alike s) le) ∙ sym (law .no-event s a b le)
             ]
-        | inr le ↦ no-own-command n (table-rows m n) (table-aims m n) s a b (rw (commands-alike s) le) ∙ sym (law .no-command s a b le)
+        | inr le ↦ no-own-command n rows arrows s a b (rw (commands-alike s) le) ∙ sym (law .no-command s a b le)
       ]
 
   table-alike : Alike again m
   table-alike =
       record { states = refl; grade = grade-alike; commands = commands-alike; events = events-alike; next = next-alike }
+
+-- the rows and the arrows, laid over sheets that are long enough
+laid-alike : (m : Arena) → Lawful m → (rows : List Row) (arrows : List ℕ) → m .states ≤ length rows → arrows-to m (m .states) ≤ length arrows → Alike (table (m .states) (laid 0 (table-rows m (m .states)) rows) (laid 0 (table-aims m (m .states)) arrows)) m
+laid-alike m law rows arrows row-room arrow-room =
+    let n = m .states in
+    let new-rows = table-rows m n in
+    let new-arrows = table-aims m n in
+    let rows-long : length new-rows ≡ n = table-rows-long m n in
+    let arrows-long : length new-arrows ≡ arrows-to m n = table-aims-long m n in
+    table-alike m law (laid 0 new-rows rows) (laid 0 new-arrows arrows) (λ s lt.
+    ap (λ j. row-at (laid 0 new-rows rows) j) (sym (zero-add s))
+    ∙ (laid-within 0 new-rows rows s no-row (omega arith) (omega arith) ∙ row-there m n s lt)) (λ s i lt among.
+    let within : arrows-to m s + i < length new-arrows = omega (arith, arrows-to-grows m (suc s) n lt) in
+    ap (λ j. getD (laid 0 new-arrows arrows) j 0) (sym (zero-add (arrows-to m s + i)))
+    ∙ (laid-within 0 new-arrows arrows (arrows-to m s + i) 0 within (omega arith) ∙ arrow-there m n s i lt among))
 
 -- the bytes of a site's table are read back
 pub table-trip : (m : Arena) → Lawful m → m .states ≤ 1024 → arrows-to m (m .states) ≤ 16384 → ReadBack m (table-bytes m)
@@ -223,7 +240,8 @@ table-trip m law states arrows =
     record {
       found = table-found m law arrows;
       read = table-back m law arrows states;
-      alike = rw (table-rows-long m (m .states)) (table-alike m law);
+      alike = λ rows′ arrows′ row-room arrow-room.
+          rw (table-rows-long m (m .states)) (laid-alike m law rows′ arrows′ (omega (arith, table-rows-long m (m .states))) (omega (arith, table-aims-long m (m .states))));
     }
 
 -- also from the buffer that they were written into

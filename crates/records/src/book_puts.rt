@@ -1,7 +1,7 @@
 // Putting a book's records into a buffer: each call answers the place after what it put.
 ghost use mathlib.Core.List.{[]};
 ghost use mathlib.Core.Path.{_≡_};
-ghost use Prim.Native.Nat.{_≤_, _<_, _+_, _*_};
+ghost use Prim.Native.Nat.{_≤_, _+_, _*_};
 ghost use lib.ListN.{length};
 ghost use Rattle.std.specs.Joined.{joined};
 ghost use Rattle.records.specs.BookWritten.{reply-bytes, leaf-bytes, leaves-bytes, leaf-long, leaves-long};
@@ -40,13 +40,7 @@ fn put_covered_leaf(command: u8, rank: u16, at: usize, buffer: &mut [u8]) -> usi
 }
 
 // An open leaf with its replies.
-fn put_open_leaf(
-    first: u16,
-    second: u16,
-    replies: &[u8],
-    at: usize,
-    buffer: &mut [u8],
-) -> usize
+fn put_open_leaf(first: u16, second: u16, replies: &[u8], at: usize, buffer: &mut [u8]) -> usize
     requires { ⌜ at + 5 + 2 * length (now replies) ≤ length (now buffer) ⌝ }
     ensures { λ r. ⌜ Put at (leaf-bytes (Leaf.Open first second) (now (replies .entry))) (now (buffer .entry)) r (now (buffer .exit)) ⌝ }
 {

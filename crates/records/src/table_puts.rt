@@ -19,7 +19,11 @@ pub(crate) fn put_numbered(kind: u8, value: usize, at: usize, buffer: &mut [u8])
     requires room { ⌜ at + 3 ≤ length (now buffer) ⌝ }
     ensures { λ r. ⌜ Put at (numbered kind value) (now (buffer .entry)) r (now (buffer .exit)) ⌝ }
 {
-    put_text(&[kind, (value / 256) as u8, (value % 256) as u8], at, buffer)
+    put_text(
+        &[kind, (value / 256) as u8, (value % 256) as u8],
+        at,
+        buffer,
+    )
 }
 
 // The arrows of a state, by command and then by event.

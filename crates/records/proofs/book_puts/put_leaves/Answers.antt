@@ -1,10 +1,9 @@
-use Prim.Native.Nat.{suc, _≤_, _+_, _*_, _-_, _<_}
+use Prim.Native.Nat.{suc, _+_, _*_, _-_, _<_}
 use native.Mathlib.Omega.{arith}
 use mathlib.Core.Path.{_≡_, refl, _∙_, ap}
-use lib.ListN.{length, take, drop, getD}
+use lib.ListN.{length, take, drop}
 use Rattle.check.specs.Leaves.{leaf-at}
-use Rattle.records.specs.BookWritten.{leaf-long, leaves-long}
-use Rattle.records.specs.Lines.{own-replies}
+use Rattle.records.specs.BookWritten.{leaf-long}
 use Rattle.records.proofs.BookPuts.{leaves-bytes-long, leaves-long-grows, leaf-put, own-long}
 use Rattle.records.proofs.Listed.{put-none, own-are}
 use Rattle.records.proofs.book_puts.put_leaves.Needs as need

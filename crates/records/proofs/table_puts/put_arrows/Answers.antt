@@ -1,6 +1,6 @@
-use Prim.Native.Nat.{_*_, _<_, _/_, _%_}
+use Prim.Native.Nat.{_<_, _/_, _%_}
 use native.Mathlib.Omega.{arith}
-use mathlib.Core.Path.{_≡_, refl, _∙_, ap}
+use mathlib.Core.Path.{_≡_, _∙_, ap}
 use Rattle.records.specs.TableWritten.{aim, moves}
 use Rattle.records.proofs.Listed.{put-none}
 use Rattle.records.proofs.TablePuts.{arrows-long, aim-below, arrow-put}
