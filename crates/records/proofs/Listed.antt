@@ -4,44 +4,42 @@ use native.Mathlib.Nat.{zero-add, add-zero}
 use native.Mathlib.Omega.{arith}
 use mathlib.Core.Path.{_≡_, refl, sym, _∙_, ap}
 use mathlib.Core.List.{List, [], _++_}
-use lib.Chars.{codes}
-use lib.ListN.{length, take, drop, getD}
+use lib.ListN.{length, take, drop}
 use Rattle.std.specs.declared.result.Result.{Result}
 use Rattle.std.specs.declared.result.Result.the-variants.{Ok}
-use Rattle.std.proofs.shelf.Lists.{take-more, take-all, length-take, joined-more}
+use Rattle.std.proofs.shelf.Lists.{take-at, length-take}
 use Rattle.std.proofs.shelf.Tests.{le-ltb, lt-leb, cond-false}
 use Rattle.std.specs.Written.{decimal}
 use Rattle.site.specs.Arena.{Arena}
 use Rattle.site.specs.Refusals.{Refusal}
-use Rattle.site.proofs.Laid.{laid-none}
+use Rattle.site.proofs.Laid.{laid-none, laid-whole}
 use Rattle.check.specs.Leaves.{leaf-at}
 use Rattle.check.specs.declared.leaves.Leaf.{Leaf}
-use Rattle.records.specs.Lines.{field, replies-text, head-text, head-answer, leaf-text, line-end, own-replies, state-text, state-answer, counted, line-after}
+use Rattle.records.specs.Lines.{head-text, head-answer, leaf-text, line-end, own-replies, state-text, state-answer}
+use Rattle.records.specs.Buffers.{counted, buffer-after}
 use Rattle.records.specs.Puts.{Put}
+use Rattle.records.proofs.Answered.{ok-same}
 use Rattle.records.proofs.Putting.{put-then}
 
 -- nothing
 pub put-none : (at : ℕ) (before : List ℕ) → Put at [] before at before
 put-none at before = record { ends = sym (add-zero at); lies = sym (laid-none at before) }
 
--- one reply more
-pub reply-put : {start at end : ℕ} {before now after : List ℕ} (replies : List ℕ) (i : ℕ) → i < length replies → Put start (replies-text (take i replies)) before at now → Put at (field (codes " ") (getD replies i 0)) now end after → Put start (replies-text (take (i + 1) replies)) before end after
-reply-put replies i lt p q =
-    let more : replies-text (take (i + 1) replies) ≡ replies-text (take i replies) ++ field (codes " ") (getD replies i 0) = ap replies-text (take-more replies i 0 lt) ∙ sym (joined-more (field (codes " ")) [] (take i replies) (getD replies i 0)) in
-    rw more (put-then p q)
-
--- all of them
-pub replies-put : {start end : ℕ} {before after : List ℕ} (replies : List ℕ) (i : ℕ) → length replies ≤ i → Put start (replies-text (take i replies)) before end after → Put start (replies-text replies) before end after
-replies-put replies i le p = rw (take-all i replies le) at p
-
--- what a call that wrote its line has done
-pub record LineDone (a : Result (List ℕ) Refusal) (before : List ℕ) (r : ℕ) (after : List ℕ) : Type 0 where
+-- what a call that wrote its bytes has done
+pub record BytesDone (a : Result (List ℕ) Refusal) (before : List ℕ) (r : ℕ) (after : List ℕ) : Type 0 where
   pub answer : Ok r ≡ counted a
-  pub line : after ≡ line-after a before
+  pub bytes : after ≡ buffer-after a before
 
-pub line-put : {before after : List ℕ} {r : ℕ} (a : Result (List ℕ) Refusal) (text : List ℕ) → a ≡ Ok text → Put 0 text before r after → LineDone a before r after
-line-put a text e p =
-    record { answer = rw e (ap Ok (p .ends ∙ zero-add (length text))); line = rw e (p .lies) }
+pub bytes-put : {before after : List ℕ} {r : ℕ} (a : Result (List ℕ) Refusal) (text : List ℕ) → a ≡ Ok text → Put 0 text before r after → BytesDone a before r after
+bytes-put a text e p =
+    record { answer = rw e (ap Ok (p .ends ∙ zero-add (length text))); bytes = rw e (p .lies) }
+
+-- the bytes at the buffer's front are those that were written
+pub bytes-there : {before after : List ℕ} {r : ℕ} (a : Result (List ℕ) Refusal) (text : List ℕ) → a ≡ Ok text → length text ≤ length before → BytesDone a before r after → take r after ≡ text
+bytes-there {before} {after} {r} a text e room d =
+    let long : r ≡ length text = ok-same (d .answer ∙ ap counted e) in
+    let lies : after ≡ text ++ drop (length text) before = d .bytes ∙ (ap (λ z. buffer-after z before) e ∙ laid-whole text before room) in
+    rw (lies, long) (take-at text (drop (length text) before) (length text) refl)
 
 -- the first line fits a buffer of 128 bytes
 pub head-fits : (states covered left-open room : ℕ) → 128 ≤ room → head-answer states covered left-open room ≡ Ok (head-text states covered left-open)
@@ -65,7 +63,7 @@ state-fits m leaves replies s room a b c d =
     ∙ (cond-false _ _ _ (le-ltb room 128 c) ∙ cond-false _ _ _ (lt-leb (m .states) s d)))
 
 -- the line of a state, from its three pieces
-pub state-put : {before one two after : List ℕ} {first second end : ℕ} (m : Arena) (leaves : List Leaf) (replies : List ℕ) (s room : ℕ) (leaf : Leaf) (own : List ℕ) → m .states ≤ length leaves → 16 * m .states ≤ length replies → 128 ≤ room → s < m .states → leaf ≡ leaf-at leaves s → own ≡ own-replies m replies s → Put 0 (decimal s) before first one → Put first (leaf-text leaf own) one second two → Put second line-end two end after → LineDone (state-answer m leaves replies s room) before end after
+pub state-put : {before one two after : List ℕ} {first second end : ℕ} (m : Arena) (leaves : List Leaf) (replies : List ℕ) (s room : ℕ) (leaf : Leaf) (own : List ℕ) → m .states ≤ length leaves → 16 * m .states ≤ length replies → 128 ≤ room → s < m .states → leaf ≡ leaf-at leaves s → own ≡ own-replies m replies s → Put 0 (decimal s) before first one → Put first (leaf-text leaf own) one second two → Put second line-end two end after → BytesDone (state-answer m leaves replies s room) before end after
 state-put m leaves replies s room leaf own a b c d leaf-is own-is p q r =
     let text : leaf-text leaf own ≡ leaf-text (leaf-at leaves s) (own-replies m replies s) = rw (leaf-is, own-is) refl in
-    line-put (state-answer m leaves replies s room) (state-text m leaves replies s) (state-fits m leaves replies s room a b c d) (put-then p (put-then (rw text at q) r))
+    bytes-put (state-answer m leaves replies s room) (state-text m leaves replies s) (state-fits m leaves replies s room a b c d) (put-then p (put-then (rw text at q) r))

@@ -5,9 +5,10 @@ use native.Mathlib.Omega.{arith}
 use mathlib.Core.Path.{_≡_, refl, sym, _∙_, ap}
 use mathlib.Core.List.{List, [], _∷_, _++_}
 use lib.ListN.{length, set, take, getD}
+use Rattle.std.specs.Joined.{joined}
 use Rattle.std.specs.Written.{decimal}
 use Rattle.std.proofs.shelf.Decimals.{decimal-digit, decimal-step, length-decimal-le}
-use Rattle.std.proofs.shelf.Lists.{take-more, take-all, length-append, length-push, length-take-le}
+use Rattle.std.proofs.shelf.Lists.{take-more, take-all, length-append, length-push, length-take-le, joined-more}
 use Rattle.site.specs.Laid.{laid}
 use Rattle.site.proofs.Laid.{laid-one, laid-push, laid-append, length-laid}
 use Rattle.records.specs.Puts.{Put, Short}
@@ -29,6 +30,16 @@ put-then {at} {mid} {end} {xs} {ys} {before} {now} {after} p q =
       ends = q .ends ∙ (ap (λ m. m + length ys) (p .ends) ∙ (add-assoc at (length xs) (length ys) ∙ ap (λ m. at + m) (sym (length-append xs ys))));
       lies = q .lies ∙ rw (laid-append at xs ys before, ← p .lies, ← p .ends) refl;
     }
+
+-- one piece more of pieces that are put one after another
+pub piece-put : {start at end : ℕ} {before now after : List ℕ} (piece : ℕ → List ℕ) (xs : List ℕ) (i : ℕ) → i < length xs → Put start (joined piece (take i xs)) before at now → Put at (piece (getD xs i 0)) now end after → Put start (joined piece (take (i + 1) xs)) before end after
+piece-put piece xs i lt p q =
+    let more : joined piece (take (i + 1) xs) ≡ joined piece (take i xs) ++ piece (getD xs i 0) = ap (joined piece) (take-more xs i 0 lt) ∙ sym (joined-more piece [] (take i xs) (getD xs i 0)) in
+    rw more (put-then p q)
+
+-- all of them
+pub pieces-put : {start end : ℕ} {before after : List ℕ} (piece : ℕ → List ℕ) (xs : List ℕ) (i : ℕ) → length xs ≤ i → Put start (joined piece (take i xs)) before end after → Put start (joined piece xs) before end after
+pieces-put piece xs i le p = rw (take-all i xs le) at p
 
 -- one byte
 pub byte-put : (at byte : ℕ) (before : List ℕ) → Put at (byte ∷ []) before (at + 1) (set before at byte)

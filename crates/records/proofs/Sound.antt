@@ -99,7 +99,7 @@ sound-more n k a row aims at left s ok many all =
       aims = all-append (λ t. t < n) (a .arrows) aims (s .aims) all;
     }
 
-state-step : (n k : ℕ) (a b : Read) → Sound n k a → one-state n a ≡ Ok b → Sound n (suc k) b
+pub state-step : (n k : ℕ) (a b : Read) → Sound n k a → one-state n a ≡ Ok b → Sound n (suc k) b
 state-step n k a b s e =
     let p = and-then-ok (row-in (a .at) (length (a .arrows)) (a .left)) _ b e in
     let row = p .0 .what in
@@ -124,7 +124,7 @@ head-body-range (hi ∷ (lo ∷ left)) f e =
     (omega (arith, same), omega (arith, same))
 
 -- a head says 1 to 1,024 states
-head-range : (bs : List ℕ) (f : Found ℕ) → head-in bs ≡ Ok f → (1 ≤ f .what) × (f .what ≤ 1024)
+pub head-range : (bs : List ℕ) (f : Found ℕ) → head-in bs ≡ Ok f → (1 ≤ f .what) × (f .what ≤ 1024)
 head-range [] f e = let z : _≡_ {A = ℕ} 0 1 = cc in absurd (omega arith)
 head-range (k ∷ bs) f e = head-body-range bs f (of-kind-ok 1 0 k head-body bs f e)
 

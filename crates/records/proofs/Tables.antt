@@ -1,5 +1,5 @@
 -- The whole scan, and the two scans of reading.
-use Prim.Native.Nat.{ℕ, _≤_}
+use Prim.Native.Nat.{ℕ, _<_, _≤_}
 use native.Mathlib.Omega.{arith}
 use mathlib.Core.Path.{_≡_, refl, _∙_, ap}
 use mathlib.Core.Bool.{true}
@@ -19,7 +19,10 @@ use Rattle.records.specs.declared.table_size.TableSize.{TableSize}
 use Rattle.records.proofs.Answered.{after-ok}
 use Rattle.records.proofs.Sound.{table-sound}
 use Rattle.std.specs.Vec.{made}
-use Rattle.site.specs.Tables.{fair}
+use Rattle.site.specs.Tables.{fair, table}
+use Rattle.std.specs.shelf.Lists.{All}
+use Rattle.records.specs.TableWritten.{table-bytes}
+use Rattle.records.proofs.TableSpelled.{table-spelled}
 
 -- the head and all states were read, and nothing is left
 pub scan-done : {bs body left : List ℕ} {old-rows rows : List Row} {old-arrows arrows : List ℕ} {n total at : ℕ} → head-in bs ≡ Ok (record { what = n; left = body }) → StatesDone n body old-rows old-arrows n total at left rows arrows → length left ≤ 0 → TableDone bs old-rows old-arrows (record { states = n; arrows = total }) rows arrows
@@ -39,14 +42,15 @@ pub record TableLaid (bs : List ℕ) (old-rows : List Row) (old-arrows : List �
   pub row-sheet : rows ≡ rows-after (table-read bs (length old-rows) (length old-arrows)) old-rows
   pub arrow-sheet : arrows ≡ arrows-after (table-read bs (length old-rows) (length old-arrows)) old-arrows
   pub fair-sheets : made r (λ size. fair (size .states) rows arrows ≡ true)
+  pub trip : made r (λ size. table-bytes (table (size .states) rows arrows) ≡ bs)
 
 -- the table that was found fits the sheets
 fits-so : (bs : List ℕ) (r a : ℕ) (rd : Read) → table-in bs ≡ Ok rd → length (rd .rows) ≤ r → length (rd .arrows) ≤ a → table-read bs r a ≡ Ok rd
 fits-so bs r a rd e le le′ =
     after-ok (table-in bs) rd (fitted r a) e ∙ (cond-false _ _ _ (le-ltb r (length (rd .rows)) le) ∙ cond-false _ _ _ (le-ltb a (length (rd .arrows)) le′))
 
-pub second-scan : {bs : List ℕ} {old-rows none-rows none-rows′ : List Row} {old-arrows none-arrows none-arrows′ : List ℕ} {size : TableSize} (r : Result TableSize Fault) (rows : List Row) (arrows : List ℕ) → TableDone bs none-rows none-arrows size none-rows′ none-arrows′ → size .states ≤ length old-rows → size .arrows ≤ length old-arrows → Scanned bs old-rows old-arrows r rows arrows → TableLaid bs old-rows old-arrows r rows arrows
-second-scan {bs} {old-rows} {none-rows} {none-rows′} {old-arrows} {none-arrows} {none-arrows′} {size} (Ok again) rows arrows d le le′ s =
+pub second-scan : {bs : List ℕ} {old-rows none-rows none-rows′ : List Row} {old-arrows none-arrows none-arrows′ : List ℕ} {size : TableSize} (r : Result TableSize Fault) (rows : List Row) (arrows : List ℕ) → All (λ b. b < 256) bs → TableDone bs none-rows none-arrows size none-rows′ none-arrows′ → size .states ≤ length old-rows → size .arrows ≤ length old-arrows → Scanned bs old-rows old-arrows r rows arrows → TableLaid bs old-rows old-arrows r rows arrows
+second-scan {bs} {old-rows} {none-rows} {none-rows′} {old-arrows} {none-arrows} {none-arrows′} {size} (Ok again) rows arrows h d le le′ s =
     let same : d .found ≡ s .found = cc in
     let rows-fit : size .states ≡ length (d .found .rows) = ap (λ z. z .states) (d .measures) in
     let arrows-fit : size .arrows ≡ length (d .found .arrows) = ap (λ z. z .arrows) (d .measures) in
@@ -58,5 +62,6 @@ second-scan {bs} {old-rows} {none-rows} {none-rows′} {old-arrows} {none-arrows
       row-sheet = rw e (s .row-sheet);
       arrow-sheet = rw e (s .arrow-sheet);
       fair-sheets = rw (s .measures, s .row-sheet, s .arrow-sheet) (table-sound bs (s .found) old-rows old-arrows (s .read) rows-room arrows-room);
+      trip = rw (s .measures, s .row-sheet, s .arrow-sheet) (table-spelled bs (s .found) old-rows old-arrows h (s .read) rows-room arrows-room);
     }
-second-scan (Err f) rows arrows d le le′ s = let z : _≡_ {A = ℕ} 0 1 = cc in absurd (omega arith)
+second-scan (Err f) rows arrows h d le le′ s = let z : _≡_ {A = ℕ} 0 1 = cc in absurd (omega arith)

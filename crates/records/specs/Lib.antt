@@ -1,6 +1,14 @@
+pub mod BookBytes
+pub mod BookRead
+pub mod BookScanning
+pub mod BookTrip
+pub mod BookWritten
+pub mod Buffers
 pub mod Lines
 pub mod Puts
 pub mod Repeated
 pub mod Scanning
 pub mod TableBytes
 pub mod TableRead
+pub mod TableTrip
+pub mod TableWritten

@@ -7,9 +7,8 @@ use lib.ListN.{length, take, drop}
 use Rattle.std.specs.Joined.{joined}
 use Rattle.std.specs.Written.{decimal}
 use Rattle.std.specs.declared.result.Result.{Result}
-use Rattle.std.specs.declared.result.Result.the-variants.{Ok, Err}
+use Rattle.std.specs.declared.result.Result.the-variants.{Ok}
 use Rattle.site.specs.Arena.{Arena}
-use Rattle.site.specs.Laid.{laid}
 use Rattle.site.specs.Refusals.{Refusal, unless}
 use Rattle.check.specs.Leaves.{leaf-at}
 use Rattle.check.specs.declared.leaves.Leaf.{Leaf}
@@ -59,13 +58,3 @@ state-answer m leaves replies s room =
     (unless (ltb (length replies) (16 * m .states)) 9 (16 * m .states)
     (unless (ltb room 128) 9 128
     (unless (leb (m .states) s) 15 s (Ok (state-text m leaves replies s)))))
-
--- the answer of a call that writes a line: how many bytes it wrote
-abbrev pub counted : Result (List ℕ) Refusal → Result ℕ Refusal
-counted (Ok text) = Ok (length text)
-counted (Err r) = Err r
-
--- the buffer afterwards: the line lies on its front, or after a refusal it is as it was
-abbrev pub line-after : Result (List ℕ) Refusal → List ℕ → List ℕ
-line-after (Ok text) before = laid 0 text before
-line-after (Err r) before = before

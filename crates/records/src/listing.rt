@@ -5,7 +5,8 @@ ghost use Prim.Native.Nat.{_<_, _+_, _*_};
 ghost use lib.ListN.{length};
 ghost use Rattle.std.specs.Vec.{made};
 ghost use Rattle.site.specs.Refusals.{answered};
-ghost use Rattle.records.specs.Lines.{head-answer, state-answer, counted, line-after};
+ghost use Rattle.records.specs.Buffers.{counted, buffer-after};
+ghost use Rattle.records.specs.Lines.{head-answer, state-answer};
 use crate::leaf_line::put_leaf;
 use crate::puts::put_field;
 use crate::puts::put_number;
@@ -27,7 +28,7 @@ pub fn head_line(
 ) -> Result<usize, Fault>
     ensures answer { λ r. ⌜ answered r ≡ counted (head-answer states covered «open» (length (now (buffer .entry)))) ⌝ }
     ensures room { λ r. ⌜ made r (λ n. n ≤ 128) ⌝ }
-    ensures line { λ r. ⌜ now (buffer .exit) ≡ line-after (head-answer states covered «open» (length (now (buffer .entry)))) (now (buffer .entry)) ⌝ }
+    ensures line { λ r. ⌜ now (buffer .exit) ≡ buffer-after (head-answer states covered «open» (length (now (buffer .entry)))) (now (buffer .entry)) ⌝ }
 {
     if buffer.len() < LINE_ROOM {
         return Err(Fault::TooShort { needed: LINE_ROOM });
@@ -48,7 +49,7 @@ pub fn state_line<S: Site>(
 ) -> Result<usize, Fault>
     ensures answer { λ r. ⌜ answered r ≡ counted (state-answer (S·Site .arena (now (site .entry))) (now (leaves .entry)) (now (replies .entry)) state (length (now (buffer .entry)))) ⌝ }
     ensures room { λ r. ⌜ made r (λ n. n ≤ 128) ⌝ }
-    ensures line { λ r. ⌜ now (buffer .exit) ≡ line-after (state-answer (S·Site .arena (now (site .entry))) (now (leaves .entry)) (now (replies .entry)) state (length (now (buffer .entry)))) (now (buffer .entry)) ⌝ }
+    ensures line { λ r. ⌜ now (buffer .exit) ≡ buffer-after (state-answer (S·Site .arena (now (site .entry))) (now (leaves .entry)) (now (replies .entry)) state (length (now (buffer .entry)))) (now (buffer .entry)) ⌝ }
 {
     let states = site.states();
     if leaves.len() < states {

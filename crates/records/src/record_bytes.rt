@@ -21,7 +21,7 @@ const MOST_ARROWS: usize = 16384;
 const MOST_MOVES: u8 = 16;
 
 // A number in two bytes, the high byte first.
-fn two_bytes(hi: u8, lo: u8) -> u16
+pub(crate) fn two_bytes(hi: u8, lo: u8) -> u16
     ensures { λ r. ⌜ r ≡ two-bytes hi lo ⌝ }
 {
     256 * hi as u16 + lo as u16

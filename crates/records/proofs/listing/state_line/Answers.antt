@@ -43,5 +43,5 @@ returns g c =
     record {
       answer = done .answer;
       room = omega (arith, c .put-text .ensures .ends, own-few (c .args .replies .now) (c .args .state) (c .commands .result) few, c .put-leaf-after-leaf .ensures .short, c .put-number-after-state .ensures .short, law .limited, c .states-states .ensures);
-      line = done .line;
+      line = done .bytes;
     }
