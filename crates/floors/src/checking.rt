@@ -2,59 +2,12 @@
 use check::checks::check as check_pair;
 use check::leaves::Leaf;
 use check::leaves::consult;
-use site::grades::Grade;
-use site::sheets::Row;
+use crate::samples::ARROWS;
+use crate::samples::LEAVES;
+use crate::samples::ROWS;
 use site::table_site::TableSite;
 use site::tables::Table;
 use std::test::*;
-
-const ROWS: [Row; 4] = [
-    Row {
-        grade: Grade::Confirmed,
-        commands: 1,
-        events: 1,
-        first: 0,
-    },
-    Row {
-        grade: Grade::Ordinary,
-        commands: 2,
-        events: 2,
-        first: 1,
-    },
-    Row {
-        grade: Grade::Doubted,
-        commands: 1,
-        events: 2,
-        first: 5,
-    },
-    Row {
-        grade: Grade::Doubted,
-        commands: 1,
-        events: 1,
-        first: 7,
-    },
-];
-
-const ARROWS: [u16; 8] = [1, 1, 2, 0, 1, 0, 1, 3];
-
-const LEAVES: [Leaf; 4] = [
-    Leaf::Covered {
-        command: 0,
-        rank: 0,
-    },
-    Leaf::Covered {
-        command: 1,
-        rank: 0,
-    },
-    Leaf::Covered {
-        command: 0,
-        rank: 1,
-    },
-    Leaf::Open {
-        first: 0,
-        second: 0,
-    },
-];
 
 // What the check answers: the refusal's number and place, or 0 and how many states are covered.
 fn answer(leaves: &[Leaf], replies: &[u8]) -> (usize, usize) {

@@ -1,4 +1,6 @@
-// Tests on sample floors: reading, planning, the check and the listing, through the public calls.
+// Tests on sample floors, drift sites and piles, through the public calls.
+#[cfg(test)]
+mod books;
 #[cfg(test)]
 mod bytes;
 #[cfg(test)]
@@ -9,3 +11,7 @@ mod kinds;
 mod listing;
 #[cfg(test)]
 mod reading;
+#[cfg(test)]
+mod running;
+#[cfg(test)]
+mod samples;
