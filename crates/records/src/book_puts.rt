@@ -6,12 +6,12 @@ ghost use lib.ListN.{length};
 ghost use Rattle.std.specs.Joined.{joined};
 ghost use Rattle.records.specs.BookWritten.{reply-bytes, leaf-bytes, leaves-bytes, leaf-long, leaves-long};
 ghost use Rattle.records.specs.Puts.{Put};
-use check::leaves::Leaf;
-use check::leaves::PLACES;
 use crate::kinds::COVERED;
 use crate::kinds::OPEN;
 use crate::kinds::REPLY;
 use crate::puts::put_text;
+use check::leaves::Leaf;
+use check::leaves::PLACES;
 use site::interface::Site;
 
 // A record for each reply.

@@ -3,12 +3,12 @@ ghost use mathlib.Core.Path.{_≡_};
 ghost use Rattle.std.specs.declared.result.Result.the-variants.{Ok, Err};
 ghost use Rattle.site.specs.Refusals.{told};
 ghost use Rattle.records.specs.BookBytes.{book-head-in, leaf-in, reply-in};
-use check::leaves::Leaf;
 use crate::kinds::BOOK;
 use crate::kinds::COVERED;
 use crate::kinds::OPEN;
 use crate::kinds::REPLY;
 use crate::record_bytes::two_bytes;
+use check::leaves::Leaf;
 use site::faults::Fault;
 
 // The number of states, at the very front: it is that of the site.

@@ -6,12 +6,12 @@ ghost use Rattle.site.specs.Refusals.{answered};
 ghost use Rattle.records.specs.BookTrip.{BookBack};
 ghost use Rattle.records.specs.BookWritten.{book-answer};
 ghost use Rattle.records.specs.Buffers.{counted, buffer-after};
-use check::leaves::Leaf;
-use check::leaves::PLACES;
 use crate::book_puts::leaves_room;
 use crate::book_puts::put_leaves;
 use crate::kinds::BOOK;
 use crate::table_puts::put_numbered;
+use check::leaves::Leaf;
+use check::leaves::PLACES;
 use site::faults::Fault;
 use site::interface::Site;
 
