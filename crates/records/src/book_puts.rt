@@ -6,16 +6,13 @@ ghost use lib.ListN.{length};
 ghost use Rattle.std.specs.Joined.{joined};
 ghost use Rattle.records.specs.BookWritten.{reply-bytes, leaf-bytes, leaves-bytes, leaf-long, leaves-long};
 ghost use Rattle.records.specs.Puts.{Put};
+use crate::kinds::COVERED;
+use crate::kinds::OPEN;
+use crate::kinds::REPLY;
 use crate::puts::put_text;
 use check::leaves::Leaf;
 use check::leaves::PLACES;
 use site::interface::Site;
-
-const COVERED: u8 = 0x12;
-
-const OPEN: u8 = 0x13;
-
-const REPLY: u8 = 0x14;
 
 // A record for each reply.
 fn put_events(replies: &[u8], start: usize, buffer: &mut [u8]) -> usize

@@ -3,17 +3,13 @@ ghost use mathlib.Core.Path.{_≡_};
 ghost use Rattle.std.specs.declared.result.Result.the-variants.{Ok, Err};
 ghost use Rattle.site.specs.Refusals.{told};
 ghost use Rattle.records.specs.BookBytes.{book-head-in, leaf-in, reply-in};
+use crate::kinds::BOOK;
+use crate::kinds::COVERED;
+use crate::kinds::OPEN;
+use crate::kinds::REPLY;
 use crate::record_bytes::two_bytes;
 use check::leaves::Leaf;
 use site::faults::Fault;
-
-const BOOK: u8 = 0x11;
-
-const COVERED: u8 = 0x12;
-
-const OPEN: u8 = 0x13;
-
-const REPLY: u8 = 0x14;
 
 // The number of states, at the very front: it is that of the site.
 pub(crate) fn read_book_head(states: usize, bytes: &[u8]) -> Result<&[u8], Fault>

@@ -8,13 +8,12 @@ ghost use Rattle.records.specs.BookWritten.{book-answer};
 ghost use Rattle.records.specs.Buffers.{counted, buffer-after};
 use crate::book_puts::leaves_room;
 use crate::book_puts::put_leaves;
+use crate::kinds::BOOK;
 use crate::table_puts::put_numbered;
 use check::leaves::Leaf;
 use check::leaves::PLACES;
 use site::faults::Fault;
 use site::interface::Site;
-
-const BOOK: u8 = 0x11;
 
 // The book of a site, onto the buffer's front; how many bytes it has. Any leaves and replies are written.
 pub fn write_book<S: Site>(

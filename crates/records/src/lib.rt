@@ -4,6 +4,7 @@ pub mod book_reading;
 mod book_records;
 mod book_scanning;
 pub mod book_writing;
+mod kinds;
 mod leaf_line;
 pub mod listing;
 mod puts;

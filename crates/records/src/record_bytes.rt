@@ -4,19 +4,14 @@ ghost use Prim.Native.Nat.{_≤_, _+_, _*_};
 ghost use Rattle.std.specs.declared.result.Result.the-variants.{Ok, Err};
 ghost use Rattle.site.specs.Refusals.{told, answered};
 ghost use Rattle.records.specs.TableBytes.{two-bytes, head-in, numbered-grade, bad-count, row-of, row-in, arrow-in};
+use crate::kinds::ARROW;
+use crate::kinds::MOST_ARROWS;
+use crate::kinds::MOST_STATES;
+use crate::kinds::ROW;
+use crate::kinds::TABLE;
 use site::faults::Fault;
 use site::grades::Grade;
 use site::sheets::Row;
-
-const HEAD: u8 = 0x01;
-
-const ROW: u8 = 0x02;
-
-const ARROW: u8 = 0x03;
-
-const MOST_STATES: usize = 1024;
-
-const MOST_ARROWS: usize = 16384;
 
 const MOST_MOVES: u8 = 16;
 
@@ -49,14 +44,14 @@ pub(crate) fn read_head(bytes: &[u8]) -> Result<(usize, &[u8]), Fault>
     ensures { λ r. ⌜ elim r [ Ok p ↦ head-in (now (bytes .entry)) ≡ Ok (record { what = p .0; left = now (p .1) }) | Err f ↦ head-in (now (bytes .entry)) ≡ Err (told f) ] ⌝ }
 {
     match bytes {
-        [HEAD, hi, lo, left @ ..] => {
+        [TABLE, hi, lo, left @ ..] => {
             let states = two_bytes(*hi, *lo) as usize;
             if states == 0 || states > MOST_STATES {
                 return Err(Fault::StateCount);
             }
             Ok((states, left))
         }
-        [] | [HEAD, ..] => Err(Fault::BytesEnd { at: 0 }),
+        [] | [TABLE, ..] => Err(Fault::BytesEnd { at: 0 }),
         _ => Err(Fault::OtherKind { at: 0 }),
     }
 }

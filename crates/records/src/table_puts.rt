@@ -5,13 +5,11 @@ ghost use lib.ListN.{length};
 ghost use Rattle.site.specs.Grades.{grade-number};
 ghost use Rattle.records.specs.Puts.{Put};
 ghost use Rattle.records.specs.TableWritten.{numbered, arrows-bytes, row-bytes, moves, states-bytes, arrows-to};
+use crate::kinds::ARROW;
+use crate::kinds::ROW;
 use crate::puts::put_text;
 use site::grades::Grade;
 use site::interface::Site;
-
-const ROW: u8 = 0x02;
-
-const ARROW: u8 = 0x03;
 
 // A record with a number in two bytes, the high byte first.
 pub(crate) fn put_numbered(kind: u8, value: usize, at: usize, buffer: &mut [u8]) -> usize

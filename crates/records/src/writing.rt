@@ -6,17 +6,14 @@ ghost use Rattle.site.specs.Refusals.{answered};
 ghost use Rattle.records.specs.Buffers.{counted, buffer-after};
 ghost use Rattle.records.specs.TableTrip.{ReadBack};
 ghost use Rattle.records.specs.TableWritten.{table-answer};
+use crate::kinds::MOST_ARROWS;
+use crate::kinds::MOST_STATES;
+use crate::kinds::TABLE;
 use crate::table_puts::count_arrows;
 use crate::table_puts::put_numbered;
 use crate::table_puts::put_states;
 use site::faults::Fault;
 use site::interface::Site;
-
-const HEAD: u8 = 0x01;
-
-const MOST_STATES: usize = 1024;
-
-const MOST_ARROWS: usize = 16384;
 
 // The table of a site, onto the buffer's front; how many bytes it has.
 pub fn write_table<S: Site>(site: &S, buffer: &mut [u8]) -> Result<usize, Fault>
@@ -33,6 +30,6 @@ pub fn write_table<S: Site>(site: &S, buffer: &mut [u8]) -> Result<usize, Fault>
     if states > MOST_STATES || arrows > MOST_ARROWS {
         return Err(Fault::TableSize { states });
     }
-    let at = put_numbered(HEAD, states, 0, buffer);
+    let at = put_numbered(TABLE, states, 0, buffer);
     Ok(put_states(site, at, buffer))
 }
