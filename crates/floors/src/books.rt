@@ -1,10 +1,10 @@
 // Tables and books as bytes: what is written, what is read back, and what is refused where.
-use check::leaves::Leaf;
-use check::leaves::LeafPartialEq;
 use crate::bytes::FLOOR_B;
 use crate::samples::ARROWS;
 use crate::samples::LEAVES;
 use crate::samples::ROWS;
+use check::leaves::Leaf;
+use check::leaves::LeafPartialEq;
 use records::book_reading::read_book;
 use records::book_writing::write_book;
 use records::writing::write_table;
@@ -17,7 +17,28 @@ use std::test::*;
 
 // The book of floor B.
 const BOOK: [u8; 22] = [
-    0x11, 0, 4, 0x12, 0, 0, 0, 0x12, 1, 0, 0, 0x12, 0, 0, 1, 0x13, 0, 0, 0, 0, 0x14, 0,
+    0x11,
+    0,
+    4,
+    0x12,
+    0,
+    0,
+    0,
+    0x12,
+    1,
+    0,
+    0,
+    0x12,
+    0,
+    0,
+    1,
+    0x13,
+    0,
+    0,
+    0,
+    0,
+    0x14,
+    0,
 ];
 
 // A refusal's number and place, or 0 and what was answered.
@@ -30,12 +51,20 @@ fn told(answer: Result<usize, Fault>) -> (usize, usize) {
 
 // What reading these bytes as a book of floor B answers, with room for so many leaves and replies.
 fn answer(bytes: &[u8], leaves: usize, replies: usize) -> (usize, usize) {
-    let mut leaf_sheet = [Leaf::Open { first: 9, second: 9 }; 8];
+    let mut leaf_sheet = [Leaf::Open {
+        first: 9,
+        second: 9,
+    }; 8];
     let mut reply_sheet = [9u8; 128];
     if leaves > 8 || replies > 128 {
         return (99, 99);
     }
-    told(read_book(&Table::new(4, &ROWS, &ARROWS), bytes, &mut leaf_sheet[0..leaves], &mut reply_sheet[0..replies]))
+    told(read_book(
+        &Table::new(4, &ROWS, &ARROWS),
+        bytes,
+        &mut leaf_sheet[0..leaves],
+        &mut reply_sheet[0..replies],
+    ))
 }
 
 #[test]
@@ -67,11 +96,28 @@ fn writes_books() -> Result<(), Fail> {
 
 #[test]
 fn reads_books() -> Result<(), Fail> {
-    let mut leaves = [Leaf::Open { first: 9, second: 9 }; 5];
+    let mut leaves = [Leaf::Open {
+        first: 9,
+        second: 9,
+    }; 5];
     let mut replies = [9u8; 65];
-    check(told(read_book(&Table::new(4, &ROWS, &ARROWS), &BOOK, &mut leaves, &mut replies)) == (0, 4))?;
+    check(
+        told(read_book(
+            &Table::new(4, &ROWS, &ARROWS),
+            &BOOK,
+            &mut leaves,
+            &mut replies,
+        ))
+            == (0, 4),
+    )?;
     check(leaves[2] == LEAVES[2] && leaves[3] == LEAVES[3])?;
-    check(leaves[4] == Leaf::Open { first: 9, second: 9 })?;
+    check(
+        leaves[4]
+            == Leaf::Open {
+                first: 9,
+                second: 9,
+            },
+    )?;
     check(replies[48] == 0 && replies[49] == 9 && replies[0] == 9)
 }
 

@@ -1,10 +1,10 @@
 // The check on floor B's pair, and on pairs that are wrong in one place.
-use check::checks::check as check_pair;
-use check::leaves::Leaf;
-use check::leaves::consult;
 use crate::samples::ARROWS;
 use crate::samples::LEAVES;
 use crate::samples::ROWS;
+use check::checks::check as check_pair;
+use check::leaves::Leaf;
+use check::leaves::consult;
 use site::table_site::TableSite;
 use site::tables::Table;
 use std::test::*;
