@@ -6,6 +6,8 @@ mod bytes;
 #[cfg(test)]
 mod checking;
 #[cfg(test)]
+mod extremes;
+#[cfg(test)]
 mod kinds;
 #[cfg(test)]
 mod listing;
