@@ -11,8 +11,11 @@ use records::writing::write_table;
 use site::drift_site::DriftSite;
 use site::drifts::Drift;
 use site::faults::Fault;
+use site::pile_site::WatchedSite;
+use site::piles::Watched;
 use site::table_site::TableSite;
 use site::tables::Table;
+use site::watches::Watch;
 use std::test::*;
 
 // The book of floor B.
@@ -75,12 +78,16 @@ fn writes_tables() -> Result<(), Fail> {
     check(told(write_table(&Table::new(4, &ROWS, &ARROWS), &mut buffer[0..42])) == (9, 43))
 }
 
+// A pile of 1,104 states with 12 arrows each: 9 comes before 21, with the 3 + 4 × 1,104 + 3 × 13,248 bytes needed.
 #[test]
 fn refuses_large_sites(rt: LibcRuntime) -> Result<(), Fail> {
-    let mut site = Drift::new();
-    check(site.set(1, 7).is_ok())?;
-    let mut buffer = vec![in rt.alloc(); 0u8; 5523]?;
-    check(told(write_table(&site, buffer.as_mut_slice())) == (0, 5523))
+    let mut below = Drift::new();
+    let mut watch = Watch::new();
+    check(below.set(1, 7).is_ok() && watch.set(8, [0; 24], [2; 24]).is_ok())?;
+    let site = Watched::new(below, watch);
+    let mut buffer = vec![in rt.alloc(); 0u8; 44163]?;
+    check(told(write_table(&site, buffer.as_mut_slice())) == (21, 1104))?;
+    check(told(write_table(&site, &mut [])) == (9, 44163))
 }
 
 #[test]
