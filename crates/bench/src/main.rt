@@ -1,4 +1,6 @@
-// Times planning on large sites, as a ratio to one pass of all `next` questions: `bench run`.
+//! Times planning on large sites, as a ratio to one pass of all `next` questions: `bench run`.
+#![tactic(auto)]
+
 mod sites;
 
 use crate::sites::{Sheets, ladder, random};

@@ -1,4 +1,6 @@
-// Reads a floor's table from standard input, plans it, and writes the book's bytes to standard output.
+//! Reads a floor's table from standard input, plans it, and writes the book's bytes to standard output.
+#![tactic(auto)]
+
 use anyhow::anyhow;
 use desk::books::book_floor;
 use desk::failures::Failure;

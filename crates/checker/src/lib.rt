@@ -1,5 +1,7 @@
-// The reader's part: leaves that say what is covered and what is open, the check of leaves and replies, and
-// runs by them.
+//! The reader's part: leaves that say what is covered and what is open, the check of leaves and replies, and
+//! runs by them.
+#![tactic(auto)]
+
 mod arrows;
 mod bounding;
 pub mod calls;

@@ -1,4 +1,6 @@
-// What the programs share: a planned site in memory of its own, and why there is none.
+//! What the programs share: a planned site in memory of its own, and why there is none.
+#![tactic(auto)]
+
 pub mod books;
 pub mod drills;
 pub mod failures;

@@ -1,4 +1,6 @@
-// Plays a script of calls on a planned floor: `drill FLOOR` reads the script from standard input.
+//! Plays a script of calls on a planned floor: `drill FLOOR` reads the script from standard input.
+#![tactic(auto)]
+
 mod problems;
 mod script;
 

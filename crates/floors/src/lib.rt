@@ -1,4 +1,6 @@
-// Tests on sample floors, drift sites and piles, through the public calls.
+//! Tests on sample floors, drift sites and piles, through the public calls.
+#![tactic(auto)]
+
 #[cfg(test)]
 mod books;
 #[cfg(test)]

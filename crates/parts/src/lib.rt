@@ -1,4 +1,6 @@
-// The covered part of a site and the numbers that its plan is made of, worked out on rows of numbers.
+//! The covered part of a site and the numbers that its plan is made of, worked out on rows of numbers.
+#![tactic(auto)]
+
 mod gaps;
 pub mod labels;
 pub mod lifting;

@@ -1,4 +1,6 @@
-// Reads a floor's table from standard input, plans it, checks the plan and lists it.
+//! Reads a floor's table from standard input, plans it, checks the plan and lists it.
+#![tactic(auto)]
+
 use anyhow::anyhow;
 use desk::failures::Failure;
 use desk::input::read_input;

@@ -1,4 +1,6 @@
-// Planning: a book for the covered states of a site and an objection for the open ones.
+//! Planning: a book for the covered states of a site and an objection for the open ones.
+#![tactic(auto)]
+
 pub mod certifying;
 pub mod choosing;
 pub mod planning;

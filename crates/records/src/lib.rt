@@ -1,4 +1,6 @@
-// Records: a table and a book as bytes, and the lines of a listing.
+//! Records: a table and a book as bytes, and the lines of a listing.
+#![tactic(auto)]
+
 mod book_puts;
 pub mod book_reading;
 mod book_records;

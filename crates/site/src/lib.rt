@@ -1,4 +1,6 @@
-// Sites: finite games between a controller and a floor, their refusals, and sites read off tables.
+//! Sites: finite games between a controller and a floor, their refusals, and sites read off tables.
+#![tactic(auto)]
+
 pub mod faults;
 pub mod grades;
 pub mod interface;

@@ -1,4 +1,6 @@
-// Reads a floor's table and then a book from standard input, and checks the book as a reader does before it loads it.
+//! Reads a floor's table and then a book from standard input, and checks the book as a reader does before it loads it.
+#![tactic(auto)]
+
 use anyhow::anyhow;
 use desk::failures::Failure;
 use desk::input::read_input;

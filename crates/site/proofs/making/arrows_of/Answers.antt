@@ -19,4 +19,4 @@ loop-row-preserved c =
     let i = c.loop-row.row-index in
     let test = c.loop-row-test.true in
     let here = front_read rows c.args.n i no_row test in
-    row_more rows i c.loop-row.total _ here c.loop-row.invariant (sym c.if-not-row-ok.ensures)
+    row_more rows i c.loop-row.total _ here c.loop-row.invariant (sym c.if-not-row_ok.ensures)
