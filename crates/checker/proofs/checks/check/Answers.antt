@@ -40,8 +40,8 @@ returns-then-replies-n g c =
       cover = same_cover m (g.S.Site.lawful c.args.site.now);
     }
 
-pub returns-in-err-keeps-rule : goal.returns-in-err-keeps-rule
-returns-in-err-keeps-rule g c =
+pub returns-in_err-keeps_rule : goal.returns-in_err-keeps_rule
+returns-in_err-keeps_rule g c =
     let m = g.S.Site.arena c.args.site.now in
     let below = front_below c.states-n.result c.args.leaves.now c.loop-s.s c.loop-s-test.true in
     let at = front_at c.states-n.result c.args.leaves.now c.loop-s.s (Covered 0 0) c.loop-s-test.true in
@@ -49,7 +49,7 @@ returns-in-err-keeps-rule g c =
     let e : answered c.from-residual.result ≡ checked m c.args.leaves.now c.args.replies.now =
     rw (p.1, p.2)
     (state_refused m c.args.leaves.now c.args.replies.now c.loop-s.s c.loop-s.counts c.loop-s.invariant
-    (omega arith) (omega arith) _ _ (omega arith) at (sym c.in-err-keeps-rule.ensures)) in
+    (omega arith) (omega arith) _ _ (omega arith) at (sym c.in_err-keeps_rule.ensures)) in
     record {
       outcome = e;
       law = answer_decides m c.args.leaves.now c.args.replies.now c.from-residual.result e;
@@ -61,7 +61,7 @@ pub loop-s-preserved : goal.loop-s-preserved
 loop-s-preserved g c =
     let m = g.S.Site.arena c.args.site.now in
     let at = front_at c.states-n.result c.args.leaves.now c.loop-s.s (Covered 0 0) c.loop-s-test.true in
-    let test = sym c.in-ok-keeps-rule.ensures in
+    let test = sym c.in_ok-keeps_rule.ensures in
     elim c.match-leaf.branch [
       | in-Covered w ↦
           one_covered m c.args.leaves.now c.args.replies.now c.loop-s.s c.loop-s.counts c.loop-s.invariant

@@ -8,8 +8,8 @@ use Rattle.checker.proofs.rules.open_leaf.Goals as goal
 pub loop-a-init : goal.loop-a-init
 loop-a-init g c = refl
 
-pub overflow-add-event : goal.overflow-add-event
-overflow-add-event g c =
+pub overflow_add-event : goal.overflow_add-event
+overflow_add-event g c =
     let law = g.S.Site.lawful c.args.site.now in
     omega (arith, law.few_commands c.args.s, law.limited)
 
@@ -26,20 +26,20 @@ returns-then-event-events g c =
     (reply_refused m c.args.leaves.now c.args.replies.now c.args.s c.args.here.0 c.args.here.1
     c.loop-a.a (omega arith))
 
-pub returns-in-err-open-step : goal.returns-in-err-open-step
-returns-in-err-open-step g c =
+pub returns-in_err-open_step : goal.returns-in_err-open_step
+returns-in_err-open_step g c =
     let m = g.S.Site.arena c.args.site.now in
     let p = err_from_is_err_and c.from-residual.result c.from-residual.ensures.1 in
     rw (p.1, p.2)
     (open_refused m c.args.leaves.now c.args.replies.now c.args.s c.args.here.0 c.args.here.1
     (omega arith) (omega arith) c.loop-a.a _ (omega arith) c.loop-a.invariant
-    (reply_own m c.args.leaves.now c.args.replies.now c.args.s c.args.here.0 c.args.here.1 c.loop-a.a (omega arith) ∙ sym c.in-err-open-step.ensures))
+    (reply_own m c.args.leaves.now c.args.replies.now c.args.s c.args.here.0 c.args.here.1 c.loop-a.a (omega arith) ∙ sym c.in_err-open_step.ensures))
 
 pub loop-a-preserved : goal.loop-a-preserved
 loop-a-preserved g c =
     let m = g.S.Site.arena c.args.site.now in
     turn_passed _ c.loop-a.a c.loop-a.invariant
-    (reply_own m c.args.leaves.now c.args.replies.now c.args.s c.args.here.0 c.args.here.1 c.loop-a.a (omega arith) ∙ sym c.in-ok-open-step.ensures)
+    (reply_own m c.args.leaves.now c.args.replies.now c.args.s c.args.here.0 c.args.here.1 c.loop-a.a (omega arith) ∙ sym c.in_ok-open_step.ensures)
 
 pub returns : goal.returns
 returns g c =

@@ -4,6 +4,6 @@ use Rattle.desk.proofs.listings.add_head.Goals as goal
 
 pub returns : goal.returns
 returns c =
-    let e = c.in-ok-len.ensures in
-    c.in-ok-extend-from-slice.ensures.items
-    ∙ ap (λ line. vec_items c.args.out.now ++ line) (front_is _ _ _ c.head-line.new.buffer c.in-ok-len.len refl e.answer e.line e.room)
+    let e = c.in_ok-len.ensures in
+    c.in_ok-extend_from_slice.ensures.items
+    ∙ ap (λ line. vec_items c.args.out.now ++ line) (front_is _ _ _ c.head_line.new.buffer c.in_ok-len.len refl e.answer e.line e.room)

@@ -13,13 +13,13 @@ commands-preserved g c =
     let a = c.commands.a in
     let p : ℕ → ℕ → Bool = λ a b. ltb (at c.args.labels.now (m.next s a b)) c.args.j in
     every_more (λ a. some (p a) (m.events s)) a c.commands.invariant
-    (some_at (p a) (m.events s) c.loop-b.b (lt-ltb (at c.args.labels.now (m.next s a c.loop-b.b)) c.args.j (omega (arith, c.number-after.ensures))) (omega arith))
+    (some_at (p a) (m.events s) c.loop-b.b (lt-ltb (at c.args.labels.now (m.next s a c.loop-b.b)) c.args.j (omega (arith, c.number_after.ensures))) (omega arith))
 
 pub loop-b-preserved : goal.loop-b-preserved
 loop-b-preserved g c =
     let m = g.S.Site.arena c.args.site.now in
     let p : ℕ → Bool = λ b. ltb (at c.args.labels.now (m.next c.args.s c.commands.a b)) c.args.j in
-    some_none p c.loop-b.b c.loop-b.invariant (le-ltb (at c.args.labels.now (m.next c.args.s c.commands.a c.loop-b.b)) c.args.j (omega (arith, c.number-after.ensures)))
+    some_none p c.loop-b.b c.loop-b.invariant (le-ltb (at c.args.labels.now (m.next c.args.s c.commands.a c.loop-b.b)) c.args.j (omega (arith, c.number_after.ensures)))
 
 pub returns-in-commands : goal.returns-in-commands
 returns-in-commands g c =

@@ -2,7 +2,7 @@ use Rattle.std.proofs.Common.{◌≡◌, ℕ, Bool, sym, refl, ap, ◌∙◌, ar
 use Rattle.parts.specs.Written.{due}
 use Rattle.parts.proofs.Writes.{written_set, written_skip, due_same}
 use Rattle.parts.proofs.labels.round.Goals as goal
-use Rattle.parts.proofs.labels.round.Goals.{then-is-due, else-is-due}
+use Rattle.parts.proofs.labels.round.Goals.{then-is_due, else-is_due}
 
 pub loop-s-preserved : goal.loop-s-preserved
 loop-s-preserved g c =
@@ -12,7 +12,7 @@ loop-s-preserved g c =
     let v : ℕ → ℕ = λ _. c.args.j in
     let s = c.loop-s.s in
     let same = due_same m c.args.i c.args.j c.args.firsts.now before c.loop-s.labels s c.requires.number c.loop-s.invariant in
-    elim c.if-is-due.branch [
-      | then-is-due w ↦ rw w.labels-is (written_set p v before s c.loop-s.labels c.args.j c.loop-s.invariant (sym same ∙ sym w.if-is-due.ensures) refl (omega arith))
-      | else-is-due w ↦ rw w.labels-is (written_skip p v before s c.loop-s.labels c.loop-s.invariant (sym same ∙ sym w.if-is-due.ensures))
+    elim c.if-is_due.branch [
+      | then-is_due w ↦ rw w.labels-is (written_set p v before s c.loop-s.labels c.args.j c.loop-s.invariant (sym same ∙ sym w.if-is_due.ensures) refl (omega arith))
+      | else-is_due w ↦ rw w.labels-is (written_skip p v before s c.loop-s.labels c.loop-s.invariant (sym same ∙ sym w.if-is_due.ensures))
     ]

@@ -5,4 +5,4 @@ use Rattle.parts.proofs.lifting.best_of.Goals as goal
 
 pub loop-a-preserved : goal.loop-a-preserved
 loop-a-preserved g c =
-    c.min-least.ensures ∙ best_more (g.S.Site.arena c.args.site.now) c.args.top (at c.args.ranks.now) c.args.s c.loop-a.a c.loop-a.least c.worst-of.result c.loop-a.invariant c.worst-of.ensures
+    c.min-least.ensures ∙ best_more (g.S.Site.arena c.args.site.now) c.args.top (at c.args.ranks.now) c.args.s c.loop-a.a c.loop-a.least c.worst_of.result c.loop-a.invariant c.worst_of.ensures

@@ -7,7 +7,7 @@ bounds-row-next g c =
     let lawful = g.S.Site.lawful c.args.site.now in
     omega (arith, lawful.closed c.args.s c.args.a c.args.b c.requires.state c.requires.command c.requires.event)
 
-pub offset-bounds-row-next : goal.offset-bounds-row-next
-offset-bounds-row-next g c =
+pub offset_bounds-row-next : goal.offset_bounds-row-next
+offset_bounds-row-next g c =
     let lawful = g.S.Site.lawful c.args.site.now in
     omega (arith, lawful.limited, lawful.closed c.args.s c.args.a c.args.b c.requires.state c.requires.command c.requires.event)

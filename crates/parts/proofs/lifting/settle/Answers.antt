@@ -10,8 +10,8 @@ sweeps-preserved g c =
     let lawful = g.S.Site.lawful c.args.site.now in
     let U = unnumbered c.args.firsts.now in
     let swept : Raised m c.args.top U c.args.ranks.now c.sweep.new.ranks = raised_then m lawful c.args.top U c.args.ranks.now c.sweeps.ranks c.sweep.new.ranks c.sweeps.invariant c.sweep.ensures.raised in
-    raised_then m lawful c.args.top U c.args.ranks.now c.sweep.new.ranks c.close-gap.new.ranks swept
-    (cut_raised m lawful c.args.top U c.sweep.new.ranks c.close-gap.new.ranks (omega arith) swept.capped (swept.backed c.requires.backed) c.close-gap.ensures)
+    raised_then m lawful c.args.top U c.args.ranks.now c.sweep.new.ranks c.close_gap.new.ranks swept
+    (cut_raised m lawful c.args.top U c.sweep.new.ranks c.close_gap.new.ranks (omega arith) swept.capped (swept.backed c.requires.backed) c.close_gap.ensures)
 
 pub returns : goal.returns
 returns g c =
@@ -26,7 +26,7 @@ sweeps-smaller g c =
     let lawful = g.S.Site.lawful c.args.site.now in
     let U = unnumbered c.args.firsts.now in
     let back = c.sweep.ensures.raised.backed (c.sweeps.invariant.backed c.requires.backed) in
-    let cut = cut_raised m lawful c.args.top U c.sweep.new.ranks c.close-gap.new.ranks (omega arith) c.sweep.ensures.raised.capped back c.close-gap.ensures in
+    let cut = cut_raised m lawful c.args.top U c.sweep.new.ranks c.close_gap.new.ranks (omega arith) c.sweep.ensures.raised.capped back c.close_gap.ensures in
     let less : slack c.args.top c.sweep.new.ranks < slack c.args.top c.sweeps.ranks = c.sweep.ensures.rose c.sweeps-test.true in
-    let more : slack c.args.top c.close-gap.new.ranks ≤ slack c.args.top c.sweep.new.ranks = slack_mono c.args.top c.sweep.new.ranks c.close-gap.new.ranks (omega arith) cut.rises in
+    let more : slack c.args.top c.close_gap.new.ranks ≤ slack c.args.top c.sweep.new.ranks = slack_mono c.args.top c.sweep.new.ranks c.close_gap.new.ranks (omega arith) cut.rises in
     omega (arith, less, more)

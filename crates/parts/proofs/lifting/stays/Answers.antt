@@ -13,12 +13,12 @@ commands-preserved g c =
     let a = c.commands.a in
     let p : ℕ → ℕ → Bool = λ a b. unnumbered c.args.firsts.now (m.next s a b) in
     some_none (λ a. every (p a) (m.events s)) a c.commands.invariant
-    (every_fails (p a) (m.events s) c.loop-b.b (ne_eqb _ _ (λ e. c.if-number-after.true (c.number-after.ensures ∙ e))) (omega arith))
+    (every_fails (p a) (m.events s) c.loop-b.b (ne_eqb _ _ (λ e. c.if-number_after.true (c.number_after.ensures ∙ e))) (omega arith))
 
 pub loop-b-preserved : goal.loop-b-preserved
 loop-b-preserved g c =
     let m = g.S.Site.arena c.args.site.now in
-    every_more (λ b. unnumbered c.args.firsts.now (m.next c.args.s c.commands.a b)) c.loop-b.b c.loop-b.invariant (eq-eqb _ _ (sym c.number-after.ensures ∙ c.if-number-after.false))
+    every_more (λ b. unnumbered c.args.firsts.now (m.next c.args.s c.commands.a b)) c.loop-b.b c.loop-b.invariant (eq-eqb _ _ (sym c.number_after.ensures ∙ c.if-number_after.false))
 
 pub returns-in-commands : goal.returns-in-commands
 returns-in-commands g c =

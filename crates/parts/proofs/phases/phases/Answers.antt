@@ -9,11 +9,11 @@ use Rattle.parts.proofs.Steps.{graded_le}
 use Rattle.parts.proofs.Writes.{filled_zero, filled_within, still_unnumbered}
 use Rattle.parts.proofs.phases.phases.Goals as goal
 
-pub overflow-cast-top : goal.overflow-cast-top
-overflow-cast-top g c = omega (arith, c.doubted.ensures, graded_le _ (g.S.Site.lawful c.args.site.now) 1)
+pub overflow_cast-top : goal.overflow_cast-top
+overflow_cast-top g c = omega (arith, c.doubted.ensures, graded_le _ (g.S.Site.lawful c.args.site.now) 1)
 
-pub overflow-add-top : goal.overflow-add-top
-overflow-add-top g c = omega (arith, c.doubted.ensures, graded_le _ (g.S.Site.lawful c.args.site.now) 1)
+pub overflow_add-top : goal.overflow_add-top
+overflow_add-top g c = omega (arith, c.doubted.ensures, graded_le _ (g.S.Site.lawful c.args.site.now) 1)
 
 pub loop-i-init : goal.loop-i-init
 loop-i-init g c =
@@ -45,5 +45,5 @@ loop-i-preserved g c =
     let fewer : (t : ℕ) → unnumbered c.mark.new.firsts t ≡ true → unnumbered c.loop-i.firsts t ≡ true = still_unnumbered c.loop-i.i (lost (c.doubted.result + 1) c.settle.new.ranks c.loop-i.firsts) c.loop-i.firsts c.mark.new.firsts (omega arith) c.mark.ensures.marked in
     (c.settle.ensures.raised.capped, next.0, next.1, next.2, backed_less m (g.S.Site.lawful c.args.site.now) (c.doubted.result + 1) (unnumbered c.loop-i.firsts) (unnumbered c.mark.new.firsts) fewer (at c.settle.new.ranks) (c.settle.ensures.raised.backed c.loop-i.invariant.4))
 
-pub overflow-cast-i : goal.overflow-cast-i
-overflow-cast-i g c = omega (arith, c.loop-i.invariant.3, (g.S.Site.lawful c.args.site.now).limited)
+pub overflow_cast-i : goal.overflow_cast-i
+overflow_cast-i g c = omega (arith, c.loop-i.invariant.3, (g.S.Site.lawful c.args.site.now).limited)

@@ -6,10 +6,10 @@ use Rattle.planner.proofs.Certified.{certificate, planned_checked}
 use Rattle.planner.proofs.Filled.{answered_roomy, roomy_from, roomy_answer}
 use Rattle.planner.proofs.certifying.certify.Goals as goal
 
-pub returns-in-err-plan : goal.returns-in-err-plan
-returns-in-err-plan g c =
+pub returns-in_err-plan : goal.returns-in_err-plan
+returns-in_err-plan g c =
     let p = err_from_is_err_and c.from-residual.result c.from-residual.ensures.1 in
-    let e = c.in-err-plan.ensures in
+    let e = c.in_err-plan.ensures in
     rw (p.1, p.2) (record {
       outcome = e.outcome;
       leaves = e.leaves;
@@ -22,7 +22,7 @@ pub returns : goal.returns
 returns g c =
     let m = g.S.Site.arena c.args.site.now in
     let lawful = g.S.Site.lawful c.args.site.now in
-    let e = c.in-ok-plan.ensures in
+    let e = c.in_ok-plan.ensures in
     let fit = answered_roomy m (length c.args.leaves.now) (length c.args.replies.now) (length c.args.work.now) _ e.outcome in
     let roomy = roomy_from m (length c.args.leaves.now) (length c.args.replies.now) (length c.args.work.now) fit.0 fit.1 fit.2 in
     let leaves_are = e.leaves ∙ cond-true _ _ _ roomy in

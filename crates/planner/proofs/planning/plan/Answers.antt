@@ -9,11 +9,11 @@ returns g c =
     let m = g.S.Site.arena c.args.site.now in
     let roomy = roomy_from m (length c.args.leaves.now) (length c.args.replies.now) (length c.args.work.now) (omega arith) (omega arith) (omega arith) in
     record {
-      outcome = c.plan-roomy.ensures.answer ∙ roomy_answer m (length c.args.leaves.now) (length c.args.replies.now) (length c.args.work.now) (omega arith) (omega arith) (omega arith);
-      leaves = c.plan-roomy.ensures.leaves ∙ sym (cond-true _ _ _ roomy);
-      replies = c.plan-roomy.ensures.replies ∙ sym (cond-true _ _ _ roomy);
+      outcome = c.plan_roomy.ensures.answer ∙ roomy_answer m (length c.args.leaves.now) (length c.args.replies.now) (length c.args.work.now) (omega arith) (omega arith) (omega arith);
+      leaves = c.plan_roomy.ensures.leaves ∙ sym (cond-true _ _ _ roomy);
+      replies = c.plan_roomy.ensures.replies ∙ sym (cond-true _ _ _ roomy);
       work = record {
-        beyond = drop-append-drop (4 * c.states-n.result - 0) c.args.work.now c.plan-roomy.new.work (4 * m.states) (omega arith) (omega arith);
+        beyond = drop-append-drop (4 * c.states-n.result - 0) c.args.work.now c.plan_roomy.new.work (4 * m.states) (omega arith) (omega arith);
         refused = λ shut. absurd (shut roomy);
       };
     }

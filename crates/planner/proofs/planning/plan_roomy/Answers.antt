@@ -11,13 +11,13 @@ pub returns : goal.returns
 returns g c =
     let m = g.S.Site.arena c.args.site.now in
     let lawful = g.S.Site.lawful c.args.site.now in
-    let done = c.number-states.ensures in
-    let agree = rows_agree m lawful c.number-states.new.firsts c.number-states.new.ranks c.number-states.new.seconds
+    let done = c.number_states.ensures in
+    let agree = rows_agree m lawful c.number_states.new.firsts c.number_states.new.ranks c.number_states.new.seconds
     (done.firsts ∙ exact m _ _ _ _ (first_row m) _ (omega arith) (omega arith) (omega arith) (omega arith) (omega arith))
     (done.ranks ∙ exact m _ _ _ _ (rank_row m) _ (omega arith) (omega arith) (omega arith) (omega arith) (omega arith))
     (done.seconds ∙ exact m _ _ _ _ (second_row m) _ (omega arith) (omega arith) (omega arith) (omega arith) (omega arith)) in
     record {
-      answer = ap Ok (c.write-states.ensures.counts ∙ counted_agree m lawful _ (numbers m) agree);
-      leaves = c.write-states.ensures.leaves ∙ leaves_written_agree m lawful _ (numbers m) agree m.states c.args.leaves.now (omega arith);
-      replies = c.write-states.ensures.replies ∙ replies_written_agree m lawful _ (numbers m) agree m.states c.args.replies.now (omega arith);
+      answer = ap Ok (c.write_states.ensures.counts ∙ counted_agree m lawful _ (numbers m) agree);
+      leaves = c.write_states.ensures.leaves ∙ leaves_written_agree m lawful _ (numbers m) agree m.states c.args.leaves.now (omega arith);
+      replies = c.write_states.ensures.replies ∙ replies_written_agree m lawful _ (numbers m) agree m.states c.args.replies.now (omega arith);
     }

@@ -6,9 +6,9 @@ use Rattle.parts.proofs.Lowest.{lowest_le}
 use Rattle.planner.proofs.writing.leaf_of.Goals as goal
 
 -- a command number is at most 16
-pub overflow-cast-command : goal.overflow-cast-command
-overflow-cast-command g c =
+pub overflow_cast-command : goal.overflow_cast-command
+overflow_cast-command g c =
     let m = g.S.Site.arena c.args.site.now in
     let s = c.args.s in
     let few = (g.S.Site.lawful c.args.site.now).few_commands s in
-    omega (arith, c.lowest-command-command.ensures, few, lowest_le (λ a. every (keeps_rule m (numbers_in c.args.rows) s a) (m.events s)) (m.commands s))
+    omega (arith, c.lowest_command-command.ensures, few, lowest_le (λ a. every (keeps_rule m (numbers_in c.args.rows) s a) (m.events s)) (m.commands s))

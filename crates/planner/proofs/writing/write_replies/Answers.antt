@@ -10,11 +10,11 @@ pub loop-a-init : goal.loop-a-init
 loop-a-init g c = sym (laid_none 0 c.args.replies.now)
 
 -- an event number is at most 16
-pub overflow-cast-replies : goal.overflow-cast-replies
-overflow-cast-replies g c =
+pub overflow_cast-replies : goal.overflow_cast-replies
+overflow_cast-replies g c =
     let m = g.S.Site.arena c.args.site.now in
     let few = (g.S.Site.lawful c.args.site.now).few_events c.args.s in
-    omega (arith, c.lowest-event.ensures, few, lowest_le (answers_rule m (numbers_in c.args.rows) c.args.s c.loop-a.a) (m.events c.args.s))
+    omega (arith, c.lowest_event.ensures, few, lowest_le (answers_rule m (numbers_in c.args.rows) c.args.s c.loop-a.a) (m.events c.args.s))
 
 -- and a state has at most 16 commands
 pub bounds-replies-a : goal.bounds-replies-a
@@ -23,4 +23,4 @@ bounds-replies-a g c = omega (arith, (g.S.Site.lawful c.args.site.now).few_comma
 pub loop-a-preserved : goal.loop-a-preserved
 loop-a-preserved g c =
     let m = g.S.Site.arena c.args.site.now in
-    laid_counted_more (chosen_reply m (numbers_in c.args.rows) c.args.s) c.loop-a.a c.lowest-event.result c.loop-a.replies c.args.replies.now c.loop-a.invariant c.lowest-event.ensures
+    laid_counted_more (chosen_reply m (numbers_in c.args.rows) c.args.s) c.loop-a.a c.lowest_event.result c.loop-a.replies c.args.replies.now c.loop-a.invariant c.lowest_event.ensures

@@ -13,5 +13,5 @@ returns g c =
     record {
       covered = sym opened;
       leaves = search rules;
-      replies = laid_lent (16 * s) (chosen_replies m (numbers_in c.args.rows) s) c.args.replies.now c.write-replies.new.replies (omega arith) c.write-replies.ensures ∙ sym (cond-false _ _ _ opened);
+      replies = laid_lent (16 * s) (chosen_replies m (numbers_in c.args.rows) s) c.args.replies.now c.write_replies.new.replies (omega arith) c.write_replies.ensures ∙ sym (cond-false _ _ _ opened);
     }

@@ -8,18 +8,18 @@ use Rattle.records.proofs.book_puts.put_leaves.Goals as goal
 pub loop-state-init : goal.loop-state-init
 loop-state-init g c = put_none _ _
 
-pub overflow-add-own : goal.overflow-add-own
-overflow-add-own g c =
+pub overflow_add-own : goal.overflow_add-own
+overflow_add-own g c =
     let law = g.S.Site.lawful c.args.site.now in
     omega (arith, c.commands.ensures, law.few_commands c.loop-state.state, law.limited, c.states-state-end.ensures)
 
-pub slice-bounds-own-end : goal.slice-bounds-own-end
-slice-bounds-own-end g c =
+pub slice_bounds-own-end : goal.slice_bounds-own-end
+slice_bounds-own-end g c =
     let law = g.S.Site.lawful c.args.site.now in
     omega (arith, c.commands.ensures, law.few_commands c.loop-state.state, c.states-state-end.ensures, c.requires.replies)
 
-pub put-leaf-record-at-requires : goal.put-leaf-record-at-requires
-put-leaf-record-at-requires g c =
+pub put_leaf_record-at-requires : goal.put_leaf_record-at-requires
+put_leaf_record-at-requires g c =
     let m = g.S.Site.arena c.args.site.now in
     let law = g.S.Site.lawful c.args.site.now in
     let k = c.loop-state.state in
@@ -36,4 +36,4 @@ loop-state-preserved g c =
     let m = g.S.Site.arena c.args.site.now in
     let k = c.loop-state.state in
     let replies = c.args.replies.now in
-    leaf_put m c.args.leaves.now replies k _ _ refl (own_are m replies k c.commands.result c.commands.ensures) c.loop-state.invariant c.put-leaf-record-at.ensures
+    leaf_put m c.args.leaves.now replies k _ _ refl (own_are m replies k c.commands.result c.commands.ensures) c.loop-state.invariant c.put_leaf_record-at.ensures

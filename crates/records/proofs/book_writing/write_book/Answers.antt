@@ -13,8 +13,8 @@ returns g c =
     let room = length c.args.buffer.now in
     let leaf_room : m.states ≤ length leaves = omega (arith, c.states-states.ensures) in
     let reply_room : 16 * m.states ≤ length replies = omega (arith, c.states-states.ensures) in
-    let fits : book_long m leaves ≤ room = omega (arith, c.leaves-room-needed.ensures.long) in
-    let done = book_put m leaves replies room c.states-states.result c.states-states.ensures leaf_room reply_room fits c.put-numbered-at.ensures c.put-leaves.ensures in
+    let fits : book_long m leaves ≤ room = omega (arith, c.leaves_room-needed.ensures.long) in
+    let done = book_put m leaves replies room c.states-states.result c.states-states.ensures leaf_room reply_room fits c.put_numbered-at.ensures c.put_leaves.ensures in
     record {
       answer = done.answer;
       bytes = done.bytes;

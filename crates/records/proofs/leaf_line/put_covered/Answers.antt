@@ -4,4 +4,4 @@ use Rattle.records.proofs.leaf_line.put_covered.Goals as goal
 
 pub returns : goal.returns
 returns c =
-    record { short = search rules; put = put_then c.put-field-middle.ensures.put c.put-field.ensures.put }
+    record { short = search rules; put = put_then c.put_field-middle.ensures.put c.put_field.ensures.put }

@@ -7,6 +7,6 @@ returns c =
     record {
       short = search rules;
       put =
-          put_then c.put-field-after-first.ensures.put
-          (put_then c.put-field-after-second.ensures.put (put_then c.put-text-after-words.ensures c.put-replies.ensures.put));
+          put_then c.put_field-after_first.ensures.put
+          (put_then c.put_field-after_second.ensures.put (put_then c.put_text-after_words.ensures c.put_replies.ensures.put));
     }

@@ -9,7 +9,7 @@ loop-reply-init c = (put_none _ _, omega arith)
 
 pub loop-reply-preserved : goal.loop-reply-preserved
 loop-reply-preserved c =
-    (piece_put (field (codes " ")) c.args.replies.now c.loop-reply.reply-index c.loop-reply-test.true c.loop-reply.invariant.0 c.put-field-at.ensures.put, search rules)
+    (piece_put (field (codes " ")) c.args.replies.now c.loop-reply.reply-index c.loop-reply-test.true c.loop-reply.invariant.0 c.put_field-at.ensures.put, search rules)
 
 pub returns : goal.returns
 returns c =

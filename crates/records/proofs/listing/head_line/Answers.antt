@@ -6,11 +6,11 @@ use Rattle.records.proofs.listing.head_line.Goals as goal
 pub returns : goal.returns
 returns c =
     let whole =
-    put_then c.put-field-after-states.ensures.put
-    (put_then c.put-field-after-covered.ensures.put (put_then c.put-field-after-open.ensures.put c.put-text.ensures)) in
+    put_then c.put_field-after_states.ensures.put
+    (put_then c.put_field-after_covered.ensures.put (put_then c.put_field-after_open.ensures.put c.put_text.ensures)) in
     let done = bytes_put _ _ (head_fits c.args.states c.args.covered c.args.open (length c.args.buffer.now) (omega arith)) whole in
     record {
       answer = done.answer;
-      room = omega (arith, c.put-text.ensures.ends, c.put-field-after-states.ensures.short, c.put-field-after-covered.ensures.short, c.put-field-after-open.ensures.short);
+      room = omega (arith, c.put_text.ensures.ends, c.put_field-after_states.ensures.short, c.put_field-after_covered.ensures.short, c.put_field-after_open.ensures.short);
       line = done.bytes;
     }

@@ -6,11 +6,11 @@ use Rattle.records.proofs.reading.read_table.Goals as goal
 pub returns : goal.returns
 returns c =
     let h = All-from_get_or (λ b. b < 256) c.args.bytes.now 0 (λ i lt. search rules) in
-    let l = second_scan c.scan-2.result c.scan-2.new.rows c.scan-2.new.arrows h c.in-ok-size.ensures (omega arith) (omega arith) c.scan-2.ensures in
+    let l = second_scan c.scan-2.result c.scan-2.new.rows c.scan-2.new.arrows h c.in_ok-size.ensures (omega arith) (omega arith) c.scan-2.ensures in
     record {
       answer = l.answer;
-      row_sheet = l.row-sheet;
-      arrow_sheet = l.arrow-sheet;
-      fair_sheets = l.fair-sheets;
+      row_sheet = l.row_sheet;
+      arrow_sheet = l.arrow_sheet;
+      fair_sheets = l.fair_sheets;
       trip = l.trip;
     }

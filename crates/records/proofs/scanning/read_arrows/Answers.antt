@@ -8,17 +8,17 @@ use Rattle.records.proofs.scanning.read_arrows.Goals.{then-place-arrows, else-pl
 pub loop-i-init : goal.loop-i-init
 loop-i-init c = no_arrows_done _ _ _ _ _
 
-pub returns-in-err-next : goal.returns-in-err-next
-returns-in-err-next c =
+pub returns-in_err-next : goal.returns-in_err-next
+returns-in_err-next c =
     let p = err_from_is_err_and c.from-residual.result c.from-residual.ensures.1 in
-    rw (p.1, p.2) (arrow_failed c.args.count _ c.loop-i.invariant c.in-err-next.ensures c.loop-i-test.true)
+    rw (p.1, p.2) (arrow_failed c.args.count _ c.loop-i.invariant c.in_err-next.ensures c.loop-i-test.true)
 
 pub loop-i-preserved : goal.loop-i-preserved
 loop-i-preserved c =
-    let more = arrow_done _ _ c.loop-i.invariant c.in-ok-next.ensures in
+    let more = arrow_done _ _ c.loop-i.invariant c.in_ok-next.ensures in
     elim c.if-place-arrows.branch [
       | then-place-arrows w ↦ rw w.arrows-is more
       | else-place-arrows w ↦
           let past : length c.loop-i.arrows ≤ c.args.first + c.loop-i.i = omega arith in
-          rw (w.arrows-is, ← set_past c.loop-i.arrows (c.args.first + c.loop-i.i) c.in-ok-next.next past) more
+          rw (w.arrows-is, ← set_past c.loop-i.arrows (c.args.first + c.loop-i.i) c.in_ok-next.next past) more
     ]

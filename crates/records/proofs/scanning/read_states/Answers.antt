@@ -8,22 +8,22 @@ use Rattle.records.proofs.scanning.read_states.Goals.{then-state-rows, else-stat
 pub loop-state-init : goal.loop-state-init
 loop-state-init c = no_states_done _ _ _ _
 
-pub returns-in-err-row : goal.returns-in-err-row
-returns-in-err-row c =
+pub returns-in_err-row : goal.returns-in_err-row
+returns-in_err-row c =
     let p = err_from_is_err_and c.from-residual.result c.from-residual.ensures.1 in
-    rw (p.1, p.2) (row_failed _ c.loop-state.invariant c.in-err-row.ensures c.loop-state-test.true)
+    rw (p.1, p.2) (row_failed _ c.loop-state.invariant c.in_err-row.ensures c.loop-state-test.true)
 
-pub returns-in-err-end : goal.returns-in-err-end
-returns-in-err-end c =
-    let p = err_from_is_err_and c.from-residual-in-err-end.result c.from-residual-in-err-end.ensures.1 in
-    rw (p.1, p.2) (row_arrows_failed _ _ _ c.loop-state.invariant c.in-ok-row.ensures c.in-err-end.ensures c.loop-state-test.true)
+pub returns-in_err-end : goal.returns-in_err-end
+returns-in_err-end c =
+    let p = err_from_is_err_and c.from-residual-in_err-end.result c.from-residual-in_err-end.ensures.1 in
+    rw (p.1, p.2) (row_arrows_failed _ _ _ c.loop-state.invariant c.in_ok-row.ensures c.in_err-end.ensures c.loop-state-test.true)
 
 pub loop-state-preserved : goal.loop-state-preserved
 loop-state-preserved c =
-    let more = state_done _ _ c.loop-state.invariant c.in-ok-row.ensures c.in-ok-end.ensures in
+    let more = state_done _ _ c.loop-state.invariant c.in_ok-row.ensures c.in_ok-end.ensures in
     elim c.if-state-rows.branch [
       | then-state-rows w ↦ rw w.rows-is more
       | else-state-rows w ↦
           let past : length c.loop-state.rows ≤ c.loop-state.state = omega arith in
-          rw (w.rows-is, ← set_past c.loop-state.rows c.loop-state.state c.in-ok-row.row past) more
+          rw (w.rows-is, ← set_past c.loop-state.rows c.loop-state.state c.in_ok-row.row past) more
     ]

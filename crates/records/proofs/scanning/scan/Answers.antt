@@ -3,4 +3,4 @@ use Rattle.records.proofs.Tables.{scan_done}
 use Rattle.records.proofs.scanning.scan.Goals as goal
 
 pub returns : goal.returns
-returns c = scan_done c.in-ok-states.ensures c.in-ok-total.ensures (omega arith)
+returns c = scan_done c.in_ok-states.ensures c.in_ok-total.ensures (omega arith)

@@ -7,8 +7,8 @@ use Rattle.records.proofs.table_puts.put_arrows.Goals as goal
 pub loop-i-init : goal.loop-i-init
 loop-i-init g c = put_none _ _
 
-pub put-numbered-at-requires : goal.put-numbered-at-requires
-put-numbered-at-requires g c =
+pub put_numbered-at-requires : goal.put_numbered-at-requires
+put_numbered-at-requires g c =
     let m = g.S.Site.arena c.args.site.now in
     let s = c.args.state in
     let i = c.loop-i.i in
@@ -26,4 +26,4 @@ loop-i-preserved g c =
     let s = c.args.state in
     let i = c.loop-i.i in
     let leads : c.next-next.result ≡ aim m s i = c.next-next.ensures ∙ ap (λ e. m.next s (i / e) (i % e)) c.events-events.ensures in
-    arrow_put m s i c.next-next.result leads c.loop-i.invariant c.put-numbered-at.ensures
+    arrow_put m s i c.next-next.result leads c.loop-i.invariant c.put_numbered-at.ensures

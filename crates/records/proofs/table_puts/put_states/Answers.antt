@@ -6,22 +6,22 @@ use Rattle.records.proofs.table_puts.put_states.Goals as goal
 pub loop-state-init : goal.loop-state-init
 loop-state-init g c = put_none _ _
 
-pub put-row-arrows-requires : goal.put-row-arrows-requires
-put-row-arrows-requires g c =
+pub put_row-arrows-requires : goal.put_row-arrows-requires
+put_row-arrows-requires g c =
     let m = g.S.Site.arena c.args.site.now in
     let k = c.loop-state.state in
     omega (arith, c.requires, c.loop-state.invariant.ends, states_long m k, arrows_to_grows m (suc k) m.states (omega (arith, c.states-state-end.ensures)), c.states-state-end.ensures)
 
-pub put-arrows-at-requires : goal.put-arrows-at-requires
-put-arrows-at-requires g c =
+pub put_arrows-at-requires : goal.put_arrows-at-requires
+put_arrows-at-requires g c =
     let m = g.S.Site.arena c.args.site.now in
     let k = c.loop-state.state in
     record {
       one = omega (arith, c.states-state-end.ensures);
-      room = omega (arith, c.requires, c.loop-state.invariant.ends, c.put-row-arrows.ensures.ends, states_long m k, arrows_to_grows m (suc k) m.states (omega (arith, c.states-state-end.ensures)), c.states-state-end.ensures);
+      room = omega (arith, c.requires, c.loop-state.invariant.ends, c.put_row-arrows.ensures.ends, states_long m k, arrows_to_grows m (suc k) m.states (omega (arith, c.states-state-end.ensures)), c.states-state-end.ensures);
     }
 
 pub loop-state-preserved : goal.loop-state-preserved
 loop-state-preserved g c =
     let m = g.S.Site.arena c.args.site.now in
-    state_put m c.loop-state.state c.loop-state.invariant c.put-row-arrows.ensures c.put-arrows-at.ensures
+    state_put m c.loop-state.state c.loop-state.invariant c.put_row-arrows.ensures c.put_arrows-at.ensures

@@ -4,25 +4,25 @@ use Rattle.records.proofs.TablePuts.{few_arrows, table_put}
 use Rattle.records.proofs.TableTrips.{written_back}
 use Rattle.records.proofs.writing.write_table.Goals as goal
 
-pub overflow-mul-needed-2 : goal.overflow-mul-needed-2
-overflow-mul-needed-2 g c =
+pub overflow_mul-needed-2 : goal.overflow_mul-needed-2
+overflow_mul-needed-2 g c =
     let m = g.S.Site.arena c.args.site.now in
     let law = g.S.Site.lawful c.args.site.now in
-    omega (arith, c.count-arrows-arrows.ensures, few_arrows m law m.states, law.limited)
+    omega (arith, c.count_arrows-arrows.ensures, few_arrows m law m.states, law.limited)
 
-pub overflow-add-needed-2 : goal.overflow-add-needed-2
-overflow-add-needed-2 g c =
+pub overflow_add-needed-2 : goal.overflow_add-needed-2
+overflow_add-needed-2 g c =
     let m = g.S.Site.arena c.args.site.now in
     let law = g.S.Site.lawful c.args.site.now in
-    omega (arith, c.count-arrows-arrows.ensures, c.states-states.ensures, few_arrows m law m.states, law.limited)
+    omega (arith, c.count_arrows-arrows.ensures, c.states-states.ensures, few_arrows m law m.states, law.limited)
 
 pub returns : goal.returns
 returns g c =
     let m = g.S.Site.arena c.args.site.now in
     let law = g.S.Site.lawful c.args.site.now in
     let room = length c.args.buffer.now in
-    let fits : table_long m ≤ room = omega (arith, c.count-arrows-arrows.ensures, c.states-states.ensures) in
+    let fits : table_long m ≤ room = omega (arith, c.count_arrows-arrows.ensures, c.states-states.ensures) in
     let states : m.states ≤ 1024 = omega (arith, c.states-states.ensures) in
-    let arrows : arrows_to m m.states ≤ 16384 = omega (arith, c.count-arrows-arrows.ensures) in
-    let done = table_put m room c.states-states.result c.states-states.ensures fits states arrows c.put-numbered-at.ensures c.put-states.ensures in
+    let arrows : arrows_to m m.states ≤ 16384 = omega (arith, c.count_arrows-arrows.ensures) in
+    let done = table_put m room c.states-states.result c.states-states.ensures fits states arrows c.put_numbered-at.ensures c.put_states.ensures in
     record { answer = done.answer; bytes = done.bytes; trip = written_back m room law fits states arrows refl done }

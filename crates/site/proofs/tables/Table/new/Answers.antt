@@ -2,8 +2,8 @@ use Rattle.std.proofs.Common.{rules}
 use Rattle.site.proofs.Beyond.{nothing_beyond}
 use Rattle.site.proofs.tables.Table.new.Goals as goal
 
-pub returns-then-not-sheets-fair : goal.returns-then-not-sheets-fair
-returns-then-not-sheets-fair c =
+pub returns-then-not-sheets_fair : goal.returns-then-not-sheets_fair
+returns-then-not-sheets_fair c =
     record {
       meaning = search rules;
       beyond = nothing_beyond c.args.states c.args.rows.now c.args.arrows.now;

@@ -4,8 +4,8 @@ use Rattle.watch.specs.WatchLaws.{watch_range_is}
 use Rattle.watch.proofs.Bounds.{next_low}
 use Rattle.watch.proofs.pile_site.WatchedSite.next.Goals as goal
 
-pub overflow-add-result : goal.overflow-add-result
-overflow-add-result g c =
+pub overflow_add-result : goal.overflow_add-result
+overflow_add-result g c =
     let below = c.args.self.now.below in
     let m = g.S.Site.arena below in
     let w = c.worn-watch.result in
