@@ -1,6 +1,6 @@
 -- What a watch above a site leaves as it is.
 use Rattle.std.proofs.Common.{◌≡◌, ℕ, zero, suc, ◌+◌, ◌*◌, ◌/◌, ◌%◌, ◌<◌, ◌≤◌, Bool, true, false, cond, ◌&&◌, ltb, leb, List, [], ◌∷◌, map, sym, refl, ap, ◌∙◌, subst, inl, inr, div-one, arith}
-use native.Mathlib.Nat.{mod_one}
+use native.Mathlib.Nat.{mod-one}
 use lib.Arith.{digits_div, digits_mod}
 use Rattle.std.proofs.lemmas.Bool.{cond-true, cond-false, cond_both, lt-ltb, le-ltb, lt-leb, cases_lt, and_left, and_right}
 use Rattle.site.specs.Arena.{Arena, Lawful}
@@ -23,7 +23,7 @@ module _ (m : Arena) (w : Dial) (law : Lawful m) (f : Fair w) (c : Clear w) wher
   one_state s = ap (λ n. s / n) c.0 ∙ div-one s
 
   one_position : (s : ℕ) → position w s ≡ 0
-  one_position s = ap (λ n. s % n) c.0 ∙ mod_one s
+  one_position s = ap (λ n. s % n) c.0 ∙ mod-one s
 
   all_states : m.states ≡ pile_states m w
   all_states = omega (arith, ap (λ n. m.states * n) c.0)

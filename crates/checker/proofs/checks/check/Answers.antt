@@ -45,14 +45,14 @@ returns-in_err-keeps_rule g c =
     let m = g.S.Site.arena c.args.site.now in
     let below = front_below c.states-n.result c.args.leaves.now c.loop-s.s c.loop-s-test.true in
     let at = front_at c.states-n.result c.args.leaves.now c.loop-s.s (Covered 0 0) c.loop-s-test.true in
-    let p = err_from_is_err_and c.from-residual.result c.from-residual.ensures.1 in
-    let e : answered c.from-residual.result ≡ checked m c.args.leaves.now c.args.replies.now =
+    let p = err_from_is_err_and c.from_residual.result c.from_residual.ensures.1 in
+    let e : answered c.from_residual.result ≡ checked m c.args.leaves.now c.args.replies.now =
     rw (p.1, p.2)
     (state_refused m c.args.leaves.now c.args.replies.now c.loop-s.s c.loop-s.counts c.loop-s.invariant
     (omega arith) (omega arith) _ _ (omega arith) at (sym c.in_err-keeps_rule.ensures)) in
     record {
       outcome = e;
-      law = answer_decides m c.args.leaves.now c.args.replies.now c.from-residual.result e;
+      law = answer_decides m c.args.leaves.now c.args.replies.now c.from_residual.result e;
       runs = run_law m (g.S.Site.lawful c.args.site.now);
       cover = same_cover m (g.S.Site.lawful c.args.site.now);
     }

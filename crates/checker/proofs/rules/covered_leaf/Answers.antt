@@ -11,7 +11,7 @@ loop-b-init g c = refl
 pub returns-in_err-covered_step : goal.returns-in_err-covered_step
 returns-in_err-covered_step g c =
     let m = g.S.Site.arena c.args.site.now in
-    let p = err_from_is_err_and c.from-residual.result c.from-residual.ensures.1 in
+    let p = err_from_is_err_and c.from_residual.result c.from_residual.ensures.1 in
     rw (p.1, p.2)
     (covered_refused m c.args.leaves.now c.args.s c.args.command c.args.rank
     (omega arith) (omega arith) c.loop-b.b _ (omega arith) c.loop-b.invariant

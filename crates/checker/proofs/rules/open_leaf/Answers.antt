@@ -29,7 +29,7 @@ returns-then-event-events g c =
 pub returns-in_err-open_step : goal.returns-in_err-open_step
 returns-in_err-open_step g c =
     let m = g.S.Site.arena c.args.site.now in
-    let p = err_from_is_err_and c.from-residual.result c.from-residual.ensures.1 in
+    let p = err_from_is_err_and c.from_residual.result c.from_residual.ensures.1 in
     rw (p.1, p.2)
     (open_refused m c.args.leaves.now c.args.replies.now c.args.s c.args.here.0 c.args.here.1
     (omega arith) (omega arith) c.loop-a.a _ (omega arith) c.loop-a.invariant

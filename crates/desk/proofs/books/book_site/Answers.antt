@@ -16,7 +16,7 @@ returns-in_err-written g c =
     let leaves : c.as_slice.result.now ≡ own_leaves m = c.as_slice.ensures.value ∙ plan.0 in
     let replies : c.as_slice-2.result.now ≡ own_replies m = c.as_slice-2.ensures.value ∙ plan.1 in
     let room : length c.as_mut_slice.result.now ≡ 3 + 37 * m.states = omega (arith, c.as_mut_slice.ensures.len, c.in_ok-book.ensures.len, c.states.ensures) in
-    let p = err_from_is_err_and c.from-residual-in_err-written.result c.from-residual-in_err-written.ensures.1 in
+    let p = err_from_is_err_and c.from_residual-in_err-written.result c.from_residual-in_err-written.ensures.1 in
     let made = book_made m (g.S.Site.lawful c.args.site.now) c.as_slice.result.now c.as_slice-2.result.now (length c.as_mut_slice.result.now) (omega (arith, ap length leaves ∙ own_leaves_long m)) (omega (arith, ap length replies ∙ own_replies_long m)) (omega arith) in
     rw (p.1, p.2) (not_refused _ _ _ c.in_err-written.ensures.answer made)
 

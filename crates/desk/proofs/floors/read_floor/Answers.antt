@@ -9,12 +9,12 @@ use Rattle.desk.proofs.floors.read_floor.Goals as goal
 
 pub returns-in_err-arrows : goal.returns-in_err-arrows
 returns-in_err-arrows c =
-    let p = err_from_is_err_and c.from-residual-in_err-arrows.result c.from-residual-in_err-arrows.ensures.1 in
+    let p = err_from_is_err_and c.from_residual-in_err-arrows.result c.from_residual-in_err-arrows.ensures.1 in
     rw (p.1, p.2) tt
 
 pub returns-in_err-size : goal.returns-in_err-size
 returns-in_err-size c =
-    let p = err_from_is_err_and c.from-residual-in_err-size.result c.from-residual-in_err-size.ensures.1 in
+    let p = err_from_is_err_and c.from_residual-in_err-size.result c.from_residual-in_err-size.ensures.1 in
     let rows : length c.as_mut_slice.result.now ≡ 1024 = omega (arith, c.as_mut_slice.ensures.len, c.in_ok-rows.ensures.len) in
     let arrows : length c.as_mut_slice-2.result.now ≡ 16384 = omega (arith, c.as_mut_slice-2.ensures.len, c.in_ok-arrows.ensures.len) in
     rw (p.1, p.2) (c.in_err-size.ensures.answer ∙ (ap (λ n. sized (table_read c.args.bytes.now n (length c.as_mut_slice-2.result.now))) rows ∙ ap (λ n. sized (table_read c.args.bytes.now 1024 n)) arrows))

@@ -10,7 +10,7 @@ use Rattle.desk.proofs.verdicts.check_floor_book.Goals as goal
 
 pub returns-in_err-floor : goal.returns-in_err-floor
 returns-in_err-floor c =
-    let p = err_from_is_err_and c.from-residual-in_err-floor.result c.from-residual-in_err-floor.ensures.1 in
+    let p = err_from_is_err_and c.from_residual-in_err-floor.result c.from_residual-in_err-floor.ensures.1 in
     rw (p.1, p.2) (table_refused c.args.bytes.now c.in_ok-end.end c.in_err-floor.field-0.0 c.in_ok-end.ensures.answer c.in_err-floor.ensures)
 
 pub returns : goal.returns

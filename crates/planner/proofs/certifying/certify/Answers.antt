@@ -8,7 +8,7 @@ use Rattle.planner.proofs.certifying.certify.Goals as goal
 
 pub returns-in_err-plan : goal.returns-in_err-plan
 returns-in_err-plan g c =
-    let p = err_from_is_err_and c.from-residual.result c.from-residual.ensures.1 in
+    let p = err_from_is_err_and c.from_residual.result c.from_residual.ensures.1 in
     let e = c.in_err-plan.ensures in
     rw (p.1, p.2) (record {
       outcome = e.outcome;

@@ -12,7 +12,7 @@ loop-state-init g c = no_leaves_done _ _ _ _
 pub returns-in_err-leaf : goal.returns-in_err-leaf
 returns-in_err-leaf g c =
     let m = g.S.Site.arena c.args.site.now in
-    let p = err_from_is_err_and c.from-residual.result c.from-residual.ensures.1 in
+    let p = err_from_is_err_and c.from_residual.result c.from_residual.ensures.1 in
     rw (p.1, p.2) (leaf_failed m.states _ c.loop-state.invariant c.in_err-leaf.ensures (omega (arith, c.states-state-end.ensures)))
 
 pub read_replies-requires : goal.read_replies-requires
@@ -30,7 +30,7 @@ read_replies-requires g c =
 pub returns-in_err-end : goal.returns-in_err-end
 returns-in_err-end g c =
     let m = g.S.Site.arena c.args.site.now in
-    let p = err_from_is_err_and c.from-residual-in_err-end.result c.from-residual-in_err-end.ensures.1 in
+    let p = err_from_is_err_and c.from_residual-in_err-end.result c.from_residual-in_err-end.ensures.1 in
     let leaf = c.in_ok-leaf.leaf in
     let due = c.replies_due-count.ensures ∙ ap (replies_due leaf) c.commands.ensures in
     rw (p.1, p.2) (leaf_replies_failed m.states _ leaf _ _ _ c.width_of.ensures due c.loop-state.invariant c.in_ok-leaf.ensures c.in_err-end.ensures (omega (arith, c.states-state-end.ensures)))

@@ -10,7 +10,7 @@ loop-i-init c = no_replies_done _ _ _ _
 
 pub returns-in_err-event : goal.returns-in_err-event
 returns-in_err-event c =
-    let p = err_from_is_err_and c.from-residual.result c.from-residual.ensures.1 in
+    let p = err_from_is_err_and c.from_residual.result c.from_residual.ensures.1 in
     rw (p.1, p.2) (reply_failed c.args.count _ c.loop-i.invariant c.in_err-event.ensures c.loop-i-test.true)
 
 pub loop-i-preserved : goal.loop-i-preserved

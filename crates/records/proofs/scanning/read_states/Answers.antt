@@ -10,12 +10,12 @@ loop-state-init c = no_states_done _ _ _ _
 
 pub returns-in_err-row : goal.returns-in_err-row
 returns-in_err-row c =
-    let p = err_from_is_err_and c.from-residual.result c.from-residual.ensures.1 in
+    let p = err_from_is_err_and c.from_residual.result c.from_residual.ensures.1 in
     rw (p.1, p.2) (row_failed _ c.loop-state.invariant c.in_err-row.ensures c.loop-state-test.true)
 
 pub returns-in_err-end : goal.returns-in_err-end
 returns-in_err-end c =
-    let p = err_from_is_err_and c.from-residual-in_err-end.result c.from-residual-in_err-end.ensures.1 in
+    let p = err_from_is_err_and c.from_residual-in_err-end.result c.from_residual-in_err-end.ensures.1 in
     rw (p.1, p.2) (row_arrows_failed _ _ _ c.loop-state.invariant c.in_ok-row.ensures c.in_err-end.ensures c.loop-state-test.true)
 
 pub loop-state-preserved : goal.loop-state-preserved
