@@ -29,7 +29,7 @@ returns c =
     let row_sheet = whole c.read_table.new.rows c.in_ok-rows.rows.items c.in_ok-rows.rows.len (omega (arith, c.as_mut_slice.ensures.len)) in
     let arrow_sheet = whole c.read_table.new.arrows c.in_ok-arrows.arrows.items c.in_ok-arrows.arrows.len (omega (arith, c.as_mut_slice-2.ensures.len)) in (
       (c.in_ok-size.size.arrows, e.answer ∙ ap sized read),
-      row_sheet ∙ (e.row_sheet ∙ (ap (λ r. rows_after r c.as_mut_slice.result.now) read ∙ ap (rows_after (table_read bs 1024 16384)) (c.as_mut_slice.ensures.value ∙ c.in_ok-rows.ensures.items-if-clones-equal (λ y e. e)))),
-      arrow_sheet ∙ (e.arrow_sheet ∙ (ap (λ r. arrows_after r c.as_mut_slice-2.result.now) read ∙ ap (arrows_after (table_read bs 1024 16384)) (c.as_mut_slice-2.ensures.value ∙ c.in_ok-arrows.ensures.items-if-clones-equal (λ y e. e)))),
+      row_sheet ∙ (e.row_sheet ∙ (ap (λ r. rows_after r c.as_mut_slice.result.now) read ∙ ap (rows_after (table_read bs 1024 16384)) (c.as_mut_slice.ensures.value ∙ c.in_ok-rows.ensures.items_if_clones_equal (λ y e. e)))),
+      arrow_sheet ∙ (e.arrow_sheet ∙ (ap (λ r. arrows_after r c.as_mut_slice-2.result.now) read ∙ ap (arrows_after (table_read bs 1024 16384)) (c.as_mut_slice-2.ensures.value ∙ c.in_ok-arrows.ensures.items_if_clones_equal (λ y e. e)))),
       ap (λ rs. fair c.in_ok-size.size.states rs (take c.in_ok-arrows.arrows.len (c.read_table.new.arrows ++ drop (length c.read_table.new.arrows) c.in_ok-arrows.arrows.items))) row_sheet ∙ (ap (fair c.in_ok-size.size.states c.read_table.new.rows) arrow_sheet ∙ e.fair_sheets),
     )
