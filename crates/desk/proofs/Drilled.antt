@@ -1,11 +1,10 @@
 -- The run that calls and their answers tell of is the run of the calls.
-use Rattle.std.proofs.Common.{◌≡◌, ℕ, suc, ◌+◌, ◌<◌, List, [], ◌∷◌, ◌++◌, map, reverse, length, get_or, take, Ok, Err, Result, sym, refl, ap, ◌∙◌, arith, length-take}
+use Rattle.std.proofs.Common.{◌≡◌, ℕ, ◌+◌, ◌<◌, List, [], ◌∷◌, ◌++◌, map, reverse, length, get_or, take, Ok, Err, Result, sym, refl, ap, ◌∙◌, arith, length-take}
 use Rattle.std.proofs.lemmas.List.{take_more, map_push, length-map, reverse-append}
 use Rattle.site.specs.Arena.{Arena}
 use Rattle.site.specs.Refusals.{Refusal, answered}
 use Rattle.site.specs.declared.faults.Fault.{Fault}
-use Rattle.checker.specs.Rounds.{answer}
-use Rattle.checker.specs.Runs.{latest, extended, next_run, ran_from, answers_from}
+use Rattle.checker.specs.Runs.{extended, next_run, ran_from, answers_from}
 use Rattle.checker.specs.declared.calls.Call.{Call}
 use Rattle.checker.specs.declared.calls.Call.TheVariants.{Place, Book, Objection}
 use Rattle.checker.specs.declared.leaves.Leaf.{Leaf}

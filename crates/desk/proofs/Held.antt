@@ -1,19 +1,18 @@
 -- The floor that bytes hold: the sheets that were read stand for the table in the bytes.
-use Rattle.std.proofs.Common.{◌≡◌, ℕ, ◌<◌, ◌≤◌, true, ltb, List, ◌++◌, length, get_or, drop, replicate, Ok, Err, Result, sym, refl, ap, ◌∙◌, zero-add, arith}
+use Rattle.std.proofs.Common.{◌≡◌, ℕ, ◌≤◌, true, ltb, List, ◌++◌, length, get_or, replicate, Ok, Err, Result, sym, ap, ◌∙◌, zero-add, arith}
 use lib.ListN.{length-replicate}
 use Rattle.std.proofs.lemmas.List.{append-nil, drop_all}
 use Rattle.std.proofs.lemmas.Bool.{ltb-false}
 use Rattle.site.specs.Arena.{Arena}
 use Rattle.site.specs.Laid.{laid}
-use Rattle.site.specs.Refusals.{Refusal, unless, and_then}
+use Rattle.site.specs.Refusals.{Refusal, and_then}
 use Rattle.site.specs.TableLaws.{fair_is}
-use Rattle.site.specs.Tables.{no_row, row_at, arrows_before, fair, made_from, SameFront}
+use Rattle.site.specs.Tables.{no_row, row_at, arrows_before, fair, made_from}
 use Rattle.site.specs.declared.sheets.Row.{Row}
 use Rattle.site.proofs.Beyond.{nothing_beyond}
 use Rattle.site.proofs.Laid.{laid_whole, laid_within, length_laid}
 use Rattle.records.specs.TableBytes.{Read, table_in}
-use Rattle.records.specs.TableRead.{table_read, fitted, size_of, sized, rows_after, arrows_after}
-use Rattle.records.specs.declared.table_size.TableSize.{TableSize}
+use Rattle.records.specs.TableRead.{fitted, size_of, sized, rows_after, arrows_after}
 use Rattle.records.proofs.Answered.{unless_ok, and_then_ok, ok_same}
 use Rattle.records.proofs.Sound.{table_sound}
 use Rattle.std.specs.Global.{Vec}

@@ -1,9 +1,8 @@
 -- Lines that are put into a buffer and added behind others.
-use Rattle.std.proofs.Common.{◌≡◌, ℕ, zero, suc, ◌+◌, ◌-◌, ◌*◌, ◌<◌, ◌≤◌, ltb, leb, List, ◌++◌, length, take, drop, Ok, Err, Result, sym, refl, ap, ◌∙◌, arith}
+use Rattle.std.proofs.Common.{◌≡◌, ℕ, ◌-◌, ◌*◌, ◌<◌, ◌≤◌, ltb, leb, List, length, take, drop, Ok, Result, ap, ◌∙◌, arith}
 use Rattle.std.proofs.lemmas.List.{take_at}
 use Rattle.std.proofs.lemmas.Bool.{cond-false, le-ltb, lt-leb}
 use Rattle.site.specs.Arena.{Arena}
-use Rattle.site.specs.Laid.{laid}
 use Rattle.site.specs.Refusals.{Refusal}
 use Rattle.site.proofs.Laid.{laid_whole}
 use Rattle.checker.specs.declared.leaves.Leaf.{Leaf}

@@ -5,7 +5,7 @@ use Rattle.site.specs.Refusals.{Refusal}
 use Rattle.checker.specs.Leaves.{leaf_at}
 use Rattle.checker.specs.declared.leaves.Leaf.{Leaf}
 use Rattle.checker.specs.declared.leaves.Leaf.TheVariants.{Covered, Open}
-use Rattle.records.specs.BookWritten.{leaf_long, leaves_long, book_long, book_bytes, book_answer}
+use Rattle.records.specs.BookWritten.{leaf_long, leaves_long, book_bytes, book_answer}
 use Rattle.records.specs.Buffers.{counted}
 use Rattle.records.proofs.BookPuts.{book_fits, leaves_bytes_long}
 

@@ -7,7 +7,6 @@ use Rattle.site.specs.Refusals.{Refusal, told, and_then}
 use Rattle.checker.specs.Checked.{checked}
 use Rattle.checker.specs.declared.leaves.Leaf.{Leaf}
 use Rattle.checker.specs.declared.leaves.Leaf.TheVariants.{Open}
-use Rattle.records.specs.BookBytes.{BookRead}
 use Rattle.records.specs.BookRead.{book_read, states_read, leaves_after, replies_after}
 use Rattle.records.specs.TableBytes.{Read}
 use Rattle.records.specs.TableRead.{sized}

@@ -7,7 +7,6 @@ use Rattle.site.specs.declared.grades.Grade.TheVariants.{Ordinary}
 use Rattle.site.specs.declared.sheets.Row.{Row}
 use Rattle.records.specs.TableBytes.{Read}
 use Rattle.records.specs.TableRead.{table_read, sized, rows_after, arrows_after}
-use Rattle.records.specs.declared.table_size.TableSize.{TableSize}
 use Rattle.desk.specs.declared.failures.Failure.{Failure}
 use Rattle.desk.specs.declared.failures.Failure.TheVariants.{Refused, NoMemory}
 use Rattle.desk.specs.declared.floors.Floor.{Floor}

@@ -1,5 +1,5 @@
 -- The drift sites: a pair for each, to which the check says yes.
-use Rattle.std.proofs.Common.{◌≡◌, ℕ, zero, suc, List, [], ◌∷◌, ◌++◌, refl}
+use Rattle.std.proofs.Common.{ℕ, List, [], ◌∷◌, ◌++◌, refl}
 use Rattle.drift.specs.DriftLaws.{drift_lawful}
 use Rattle.drift.specs.Drifts.{drift}
 use Rattle.checker.specs.declared.leaves.Leaf.{Leaf}

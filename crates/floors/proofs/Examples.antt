@@ -1,5 +1,5 @@
 -- Every worked example is as the rules say.
-use Rattle.std.proofs.Common.{◌≡◌, refl}
+use Rattle.std.proofs.Common.{refl}
 use Rattle.std.specs.Fmt.{digits}
 use Rattle.checker.specs.Runs.{ran_from, answers_from}
 use Rattle.floors.specs.Shown.{Each}

@@ -1,10 +1,9 @@
 -- The small floors, by computing what the rules say of them.
-use Rattle.std.proofs.Common.{Ok, refl}
+use Rattle.std.proofs.Common.{refl}
 use Rattle.site.specs.Laid.{laid}
 use Rattle.site.specs.Tables.{resting}
-use Rattle.checker.specs.Runs.{ran_from, answers_from}
 use Rattle.parts.specs.Regions.{region, greatest, least, covered, rank, first, second}
-use Rattle.floors.specs.Shown.{Example, Shown, floor}
+use Rattle.floors.specs.Shown.{Shown, floor}
 use Rattle.floors.specs.Shown.Example.{Planned}
 use Rattle.floors.specs.Examples.{bytes_b, pair_b, bytes_a, pair_a, bytes_c, pair_c, bytes_late, pair_late, pair_resting}
 

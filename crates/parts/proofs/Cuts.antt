@@ -1,10 +1,10 @@
 -- Marks of the numbers in use, and cuts at gaps.
-use Rattle.std.proofs.Common.{◌≡◌, ℕ, zero, suc, ◌+◌, ◌-◌, ◌<◌, ◌≤◌, min, Bool, true, false, cond, ◌&&◌, eqb, ltb, List, [], ◌∷◌, length, set, sym, refl, ap, ◌∙◌, inl, inr, arith, length-set}
+use Rattle.std.proofs.Common.{◌≡◌, ℕ, suc, ◌+◌, ◌<◌, ◌≤◌, min, Bool, true, false, cond, eqb, ltb, List, [], ◌∷◌, length, set, sym, refl, ap, ◌∙◌, inl, inr, arith, length-set}
 use Rattle.std.proofs.lemmas.List.{get_or-set_same, get_or-set_other}
-use Rattle.std.proofs.lemmas.Bool.{cases_eq, cases_lt, both_ways, and_left, and_parts, eq-eqb, ne_eqb, eqb-true, lt-ltb, le-ltb, ltb-true, cond-true, cond-false}
+use Rattle.std.proofs.lemmas.Bool.{cases_eq, cases_lt, and_left, and_parts, eq-eqb, ne_eqb, eqb-true, lt-ltb, le-ltb, ltb-true, cond-true, cond-false}
 use Rattle.site.specs.Arena.{Arena, Lawful}
 use Rattle.site.specs.Counting.{some}
-use Rattle.parts.specs.Gaps.{in_use, unmarked, Cut}
+use Rattle.parts.specs.Gaps.{unmarked, Cut}
 use Rattle.parts.specs.Lifting.{at, Calm, Backed, Raised, slack}
 use Rattle.parts.specs.Regions.{lowest}
 use Rattle.parts.proofs.Backing.{climbs}

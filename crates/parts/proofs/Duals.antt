@@ -1,12 +1,11 @@
 -- What the controller cannot hold the floor can block: the complement turns F into G, and covered into open.
-use Rattle.std.proofs.Common.{◌≡◌, ℕ, zero, suc, ◌+◌, ◌<◌, ◌≤◌, Bool, true, false, cond, not, ◌&&◌, ◌||◌, ◌⊎◌, sym, refl, ap, ◌∙◌, subst, inl, inr, arith}
+use Rattle.std.proofs.Common.{◌≡◌, ℕ, zero, suc, ◌<◌, Bool, true, false, not, ◌&&◌, ◌||◌, sym, refl, ap, ◌∙◌, arith}
 use Rattle.site.specs.Arena.{Arena, Lawful}
 use Rattle.site.specs.Counting.{every, some}
 use Rattle.parts.specs.Moves.{holds, blocks, by_grade}
 use Rattle.parts.specs.Regions.{Region, has, region, all, nothing, F, G, iterate, greatest, least, stage, covered}
-use Rattle.parts.proofs.Forces.{F_size, F_grows, levels_grow, covers_grow}
 use Rattle.parts.proofs.Levels.{limit}
-use Rattle.parts.proofs.Regions.{Sized, region_has, region_length, region_same, greatest_size, least_size}
+use Rattle.parts.proofs.Regions.{region_has, region_same}
 
 not_and : (x y : Bool) → not (x && y) ≡ (not x || not y)
 not_and true y = refl

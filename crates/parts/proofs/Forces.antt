@@ -1,13 +1,13 @@
 -- What can be forced in one round, as facts; and the operators F and G, which grow with each region.
-use Rattle.std.proofs.Common.{◌≡◌, ℕ, zero, suc, ◌+◌, ◌<◌, ◌≤◌, Bool, true, false, cond, not, ◌&&◌, ◌||◌, ◌⊎◌, sym, refl, ap, ◌∙◌, subst, inl, inr, arith}
-use Rattle.std.proofs.lemmas.Bool.{cases_eq, and_from, or_cases, false≢true}
-use Rattle.site.specs.Arena.{Arena, Lawful}
+use Rattle.std.proofs.Common.{◌≡◌, ℕ, zero, suc, ◌<◌, Bool, true, refl, inl, inr, arith}
+use Rattle.std.proofs.lemmas.Bool.{and_from, or_cases, false≢true}
+use Rattle.site.specs.Arena.{Arena}
 use Rattle.site.specs.Counting.{every, some}
 use Rattle.site.specs.CountingLaws.{every_at}
 use Rattle.parts.specs.Moves.{holds, blocks, by_grade}
-use Rattle.parts.specs.Regions.{Region, has, region, F, G, greatest, least, level, covered, stage, iterate, nothing}
+use Rattle.parts.specs.Regions.{Region, has, F, G, greatest, least}
 use Rattle.parts.proofs.Steps.{some_at}
-use Rattle.parts.proofs.Regions.{Sized, Within, Growing, has_below, region_length, region_has, region_within, greatest_mono, greatest_size, least_mono, least_size}
+use Rattle.parts.proofs.Regions.{Sized, Within, Growing, region_length, region_within, greatest_mono, greatest_size, least_mono, least_size}
 
 pub every_from : (p : ℕ → Bool) (n : ℕ) → ((k : ℕ) → k < n → p k ≡ true) → every p n ≡ true
 every_from p zero h = refl

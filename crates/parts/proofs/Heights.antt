@@ -1,10 +1,10 @@
 -- Lifting ends at the numbers of the levels: the least calm row is the height.
-use Rattle.std.proofs.Common.{◌≡◌, ℕ, zero, suc, ◌+◌, ◌<◌, ◌≤◌, min, max, Bool, true, false, cond, leb, ◌⊎◌, sym, refl, ap, ◌∙◌, subst, inl, inr, arith}
+use Rattle.std.proofs.Common.{◌≡◌, ℕ, zero, suc, ◌+◌, ◌<◌, ◌≤◌, min, true, cond, leb, sym, refl, ◌∙◌, subst, inl, inr, arith}
 use Rattle.std.proofs.lemmas.Bool.{cases_lt, cases_Bool, cond-false, leb-true, le-leb}
 use Rattle.site.specs.Arena.{Arena, Lawful, graded}
 use Rattle.parts.specs.Moves.{holds, by_grade}
-use Rattle.parts.specs.Lifting.{worst, best, value, Calm}
-use Rattle.parts.specs.Regions.{Region, has, region, F, greatest, level, nothing, lowest}
+use Rattle.parts.specs.Lifting.{worst, best, Calm}
+use Rattle.parts.specs.Regions.{Region, has, region, F, level, nothing, lowest}
 use Rattle.parts.proofs.Forces.{holds_is, holds_from, F_grows}
 use Rattle.parts.proofs.Lowest.{lowest_min, lowest_passes, lowest_le}
 use Rattle.parts.proofs.Raises.{value_top}

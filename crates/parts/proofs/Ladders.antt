@@ -1,10 +1,10 @@
 -- Pigeonholes: numbers that are all taken by states of one kind are no more than there are such states.
-use Rattle.std.proofs.Common.{◌≡◌, ℕ, zero, suc, ◌+◌, ◌<◌, ◌≤◌, Bool, true, false, cond, not, ◌&&◌, eqb, ◌⊎◌, sym, refl, ap, ◌∙◌, subst, inl, inr, arith}
-use Rattle.std.proofs.lemmas.Bool.{cases_eq, cases_Bool, and_from, and_parts, and_right, eq-eqb, ne_eqb, both_ways}
+use Rattle.std.proofs.Common.{◌≡◌, ℕ, zero, suc, ◌<◌, ◌≤◌, Bool, true, false, not, ◌&&◌, eqb, sym, refl, ap, ◌∙◌, inl, inr, arith}
+use Rattle.std.proofs.lemmas.Bool.{cases_Bool, and_from, and_parts, and_right, eq-eqb, ne_eqb, both_ways}
 use Rattle.site.specs.Counting.{some, count}
 use Rattle.parts.specs.Regions.{Region, has, nothing, iterate, lowest}
 use Rattle.parts.proofs.Lowest.{lowest_found, lowest_ways, some_not, not_some}
-use Rattle.parts.proofs.Regions.{Within, Growing, count_less, has_below, within_or, rising_mono, rising_stuck, rising_size, nothing_has}
+use Rattle.parts.proofs.Regions.{Growing, count_less, has_below, within_or, rising_mono, rising_stuck, rising_size, nothing_has}
 
 -- if each of the numbers 1 to R is the number of some state that passes p, R states pass
 pub ladder : (n : ℕ) (f : ℕ → ℕ) (R : ℕ) (p : ℕ → Bool) → ((v : ℕ) → 1 ≤ v → v ≤ R → (s : ℕ) × (s < n) × (p s ≡ true) × (f s ≡ v)) → R ≤ count p n

@@ -1,14 +1,14 @@
 -- The levels of a region rise for at most one more step than there are doubted states.
-use Rattle.std.proofs.Common.{◌≡◌, ℕ, zero, suc, ◌+◌, ◌-◌, ◌<◌, ◌≤◌, Bool, true, false, cond, not, ◌&&◌, eqb, ◌⊎◌, sym, refl, ap, ◌∙◌, subst, inl, inr, arith}
-use Rattle.std.proofs.lemmas.Bool.{cases_lt, cases_Bool, and_from, and_parts, both_ways, eq-eqb}
+use Rattle.std.proofs.Common.{◌≡◌, ℕ, zero, suc, ◌<◌, ◌≤◌, true, ◌&&◌, eqb, sym, refl, ap, ◌∙◌, subst, inl, inr, arith}
+use Rattle.std.proofs.lemmas.Bool.{cases_lt, and_from, and_parts, both_ways, eq-eqb}
 use Rattle.site.specs.Arena.{Arena, Lawful, graded}
 use Rattle.parts.specs.Moves.{holds, by_grade}
-use Rattle.parts.specs.Regions.{Region, has, region, F, greatest, least, level, nothing, lowest, iterate}
+use Rattle.parts.specs.Regions.{Region, has, region, F, greatest, least, level, lowest}
 use Rattle.parts.proofs.Forces.{F_grows, F_mono, levels_grow}
 use Rattle.parts.proofs.Heights.{top_of, height, height_le, height_min, height_in, level_is, level_below}
 use Rattle.parts.proofs.Ladders.{Added, step_bound, added_number, lowest_added}
-use Rattle.parts.proofs.Lowest.{lowest_min, lowest_le}
-use Rattle.parts.proofs.Regions.{Within, Sized, has_below, region_has, region_length, within_or, greatest_in, greatest_size, greatest_mono, rising_least, rising_mono, least_mono, least_size}
+use Rattle.parts.proofs.Lowest.{lowest_min}
+use Rattle.parts.proofs.Regions.{Within, has_below, region_has, region_length, within_or, greatest_in, greatest_size, greatest_mono, rising_least, least_size}
 
 -- the states that can be kept in U for ever
 abbrev pub limit : Arena → Region → Region

@@ -1,20 +1,20 @@
 -- Phase by phase: what the rows hold, and that the last phase leaves the covered part.
-use Rattle.std.proofs.Common.{◌≡◌, ℕ, zero, suc, ◌+◌, ◌<◌, ◌≤◌, min, Bool, true, false, cond, not, ◌&&◌, eqb, ◌⊎◌, List, sym, refl, ap, ◌∙◌, subst, inl, inr, add-one, arith}
-use Rattle.std.proofs.lemmas.Bool.{cases_lt, cases_eq, cases_Bool, both_ways, and_from, and_parts, and_left, and_right, eq-eqb, ne_eqb, eqb-true, cond-true, cond-false, not-true, not-false, true≢false, false≢true}
-use Rattle.site.specs.Arena.{Arena, Lawful, graded}
+use Rattle.std.proofs.Common.{◌≡◌, ℕ, zero, suc, ◌+◌, ◌<◌, ◌≤◌, min, Bool, true, false, cond, not, ◌&&◌, eqb, List, sym, refl, ap, ◌∙◌, subst, inl, inr, add-one, arith}
+use Rattle.std.proofs.lemmas.Bool.{cases_lt, cases_eq, cases_Bool, both_ways, and_from, and_parts, eq-eqb, ne_eqb, eqb-true, cond-true, cond-false, not-true, not-false}
+use Rattle.site.specs.Arena.{Arena, Lawful}
 use Rattle.site.specs.Counting.{some}
-use Rattle.parts.specs.Moves.{holds, blocks, by_grade}
+use Rattle.parts.specs.Moves.{blocks, by_grade}
 use Rattle.parts.specs.Lifting.{at, none, unnumbered, best, value, Calm, Raised}
-use Rattle.parts.specs.Regions.{Region, has, region, all, nothing, F, G, iterate, greatest, least, level, covered, stage, lowest, rank, first}
+use Rattle.parts.specs.Regions.{Region, has, region, G, least, covered, stage, rank, first}
 use Rattle.parts.specs.Rows.{FirstRow, RankRow}
 use Rattle.parts.specs.Written.{lost}
-use Rattle.parts.proofs.Duals.{remain, holds_agree, stage_not, remain_not, stage_is, covered_remain}
-use Rattle.parts.proofs.Forces.{some_one, covers_grow, stages_grow, rounds_grow, G_grows, G_mono, blocks_mono, levels_grow}
+use Rattle.parts.proofs.Duals.{remain, holds_agree, stage_not, remain_not, covered_remain}
+use Rattle.parts.proofs.Forces.{some_one, covers_grow, stages_grow, rounds_grow, G_grows, G_mono, blocks_mono}
 use Rattle.parts.proofs.Heights.{top_of, height, height_le, height_calm, height_least}
-use Rattle.parts.proofs.Ladders.{Added, step_bound, added_number}
+use Rattle.parts.proofs.Ladders.{Added, added_number}
 use Rattle.parts.proofs.Levels.{limit, limit_height, height_limit, height_mono}
-use Rattle.parts.proofs.Lowest.{not_some, lowest_le}
-use Rattle.parts.proofs.Regions.{Within, Sized, has_below, region_has, region_length, within_or, within_both, greatest_in, greatest_size, greatest_fixed, least_fixed, least_out, least_size, falling, rising, rising_mono, rising_stuck, rising_size, falling_size, nothing_has}
+use Rattle.parts.proofs.Lowest.{not_some}
+use Rattle.parts.proofs.Regions.{Within, Sized, has_below, region_has, region_length, within_or, within_both, greatest_in, greatest_size, greatest_fixed, least_fixed, least_out, falling, rising, rising_stuck, rising_size, falling_size, nothing_has}
 
 -- one phase more takes a confirmed state out, if any
 module _ (m : Arena) (lawful : Lawful m) where

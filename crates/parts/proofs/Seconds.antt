@@ -1,8 +1,8 @@
 -- The second numbers, stage after stage.
-use Rattle.std.proofs.Common.{◌≡◌, ℕ, ◌+◌, ◌<◌, ◌≤◌, true, false, cond, eqb, List, sym, ap, ◌∙◌, inl, inr, arith}
-use Rattle.std.proofs.lemmas.Bool.{cases_eq, cases_Bool, eq-eqb, ne_eqb, cond-true, cond-false}
+use Rattle.std.proofs.Common.{◌≡◌, ℕ, ◌+◌, ◌<◌, true, false, cond, eqb, List, sym, ◌∙◌, inl, inr, arith}
+use Rattle.std.proofs.lemmas.Bool.{cases_eq, eq-eqb, ne_eqb, cond-true, cond-false}
 use Rattle.site.specs.Arena.{Arena, Lawful}
-use Rattle.parts.specs.Lifting.{at, none}
+use Rattle.parts.specs.Lifting.{at}
 use Rattle.parts.specs.Regions.{has, covered, first, second}
 use Rattle.parts.specs.Rows.{FirstRow, SecondRow}
 

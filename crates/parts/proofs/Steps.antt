@@ -1,6 +1,5 @@
 -- One turn more of the loops over commands and events.
-use Rattle.std.proofs.Common.{◌≡◌, ℕ, zero, suc, ◌+◌, ◌<◌, ◌≤◌, min, max, Bool, true, false, ◌||◌, eqb, sym, refl, ap, ◌∙◌, inl, inr, add-one, arith}
-use native.Mathlib.Nat.{min-le_left}
+use Rattle.std.proofs.Common.{◌≡◌, ℕ, zero, suc, ◌+◌, ◌<◌, ◌≤◌, min, max, Bool, true, false, eqb, sym, refl, ap, ◌∙◌, inl, inr, add-one, arith}
 use Rattle.std.proofs.lemmas.Bool.{or_from, or_left, or_right, cases_eq, cond_both}
 use Rattle.site.specs.Arena.{Arena, Lawful, graded}
 use Rattle.site.specs.Counting.{every, some, count}

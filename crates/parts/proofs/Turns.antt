@@ -1,19 +1,19 @@
 -- The rounds of a stage: what the labels hold, and that they are the second numbers in the end.
-use Rattle.std.proofs.Common.{◌≡◌, ℕ, zero, suc, ◌+◌, ◌<◌, ◌≤◌, Bool, true, false, cond, not, ◌&&◌, eqb, ltb, leb, ◌⊎◌, List, sym, refl, ap, ◌∙◌, subst, inl, inr, add-one, arith}
-use Rattle.std.proofs.lemmas.Bool.{cases_lt, cases_eq, cases_Bool, both_ways, and_from, and_parts, and_left, and_right, eq-eqb, ne_eqb, eqb-true, lt-ltb, le-ltb, le-leb, lt-leb, leb-true, cond-true, cond-false, not-true}
+use Rattle.std.proofs.Common.{◌≡◌, ℕ, zero, suc, ◌<◌, ◌≤◌, Bool, true, false, cond, not, ◌&&◌, eqb, ltb, leb, List, sym, refl, ap, ◌∙◌, inl, inr, arith}
+use Rattle.std.proofs.lemmas.Bool.{cases_lt, cases_eq, cases_Bool, both_ways, and_from, and_parts, eq-eqb, eqb-true, lt-ltb, le-ltb, le-leb, lt-leb, cond-true, cond-false, not-true}
 use Rattle.site.specs.Arena.{Arena, Lawful}
 use Rattle.site.specs.Counting.{some}
 use Rattle.parts.specs.Moves.{blocks, by_grade}
 use Rattle.parts.specs.Lifting.{at, none, unnumbered}
-use Rattle.parts.specs.Regions.{Region, has, region, nothing, G, iterate, greatest, least, covered, stage, round, lowest, first, second}
+use Rattle.parts.specs.Regions.{has, nothing, G, least, covered, stage, round, lowest, first, second}
 use Rattle.parts.specs.Rows.{FirstRow}
 use Rattle.parts.specs.Written.{ready, waiting, due}
 use Rattle.parts.proofs.Duals.{blocks_agree, remain_not, covered_remain}
 use Rattle.parts.proofs.Forces.{stages_grow, rounds_grow, G_grows, blocks_is}
-use Rattle.parts.proofs.Ladders.{Added, added_number, lowest_added, step_bound}
-use Rattle.parts.proofs.Lowest.{lowest_found, not_some, lowest_passes, lowest_min, lowest_ways}
-use Rattle.parts.proofs.Peeling.{stage_rule, stage_below, stage_jump, covered_size}
-use Rattle.parts.proofs.Regions.{Within, has_below, region_has, region_length, greatest_fixed, least_fixed, rising, rising_mono, rising_size, rising_least, nothing_has, Growing}
+use Rattle.parts.proofs.Ladders.{Added, added_number}
+use Rattle.parts.proofs.Lowest.{lowest_found, not_some, lowest_passes, lowest_min}
+use Rattle.parts.proofs.Peeling.{stage_rule, stage_below}
+use Rattle.parts.proofs.Regions.{Within, region_has, greatest_fixed, least_fixed, rising, rising_mono, rising_least, nothing_has, Growing}
 
 -- by which round of the stage after X(i) the floor has state s
 unfoldable pub turn : Arena → ℕ → ℕ → ℕ

@@ -1,14 +1,14 @@
 -- The iterations are the fixed points that the words ask for.
-use Rattle.std.proofs.Common.{◌≡◌, ℕ, zero, suc, ◌+◌, ◌<◌, ◌≤◌, Bool, true, false, not, ◌⊎◌, sym, refl, ap, ◌∙◌, subst, inl, inr, arith}
+use Rattle.std.proofs.Common.{◌≡◌, ℕ, zero, suc, ◌<◌, true, false, not, sym, refl, ap, ◌∙◌, subst, inl, inr, arith}
 use Rattle.std.proofs.lemmas.Bool.{cases_lt, both_ways, not-false, not-true}
 use Rattle.site.specs.Arena.{Arena, Lawful}
-use Rattle.parts.specs.Regions.{Region, has, nothing, F, G, iterate, greatest, least, level, covered, stage, round}
-use Rattle.parts.specs.Words.{Inside, Greatest, Least, Words}
+use Rattle.parts.specs.Regions.{Region, has, F, G, greatest, least, level, covered, stage}
+use Rattle.parts.specs.Words.{Greatest, Least, Words}
 use Rattle.parts.proofs.Duals.{covered_remain, remain_not}
-use Rattle.parts.proofs.Forces.{F_size, F_grows, G_grows, levels_grow, covers_grow, rounds_grow, stages_grow}
+use Rattle.parts.proofs.Forces.{F_grows, G_grows, levels_grow, covers_grow, rounds_grow, stages_grow}
 use Rattle.parts.proofs.Levels.{limit}
 use Rattle.parts.proofs.Peeling.{covered_size, covered_fixed, stage_below}
-use Rattle.parts.proofs.Regions.{Sized, Within, Growing, within_both, greatest_in, greatest_fixed, greatest_size, least_out, least_fixed, least_size, rising_mono, rising_stuck}
+use Rattle.parts.proofs.Regions.{Within, Growing, within_both, greatest_in, greatest_fixed, greatest_size, least_out, least_fixed, least_size, rising_mono, rising_stuck}
 use Rattle.parts.proofs.Turns.{round_last}
 
 -- the greatest fixed point of a growing operator, as the words have it

@@ -1,5 +1,5 @@
 -- Lifting: rows of numbers, one for each state, raised until no state asks for more.
-use Rattle.std.specs.Prelude.{◌≡◌, ℕ, zero, suc, ◌+◌, ◌-◌, ◌<◌, ◌≤◌, min, max, Bool, true, false, cond, List, [], ◌∷◌, ◌==◌, slice_index}
+use Rattle.std.specs.Prelude.{ℕ, zero, suc, ◌+◌, ◌-◌, ◌<◌, ◌≤◌, min, max, Bool, cond, List, [], ◌∷◌, ◌==◌, slice_index}
 use Rattle.site.specs.Arena.{Arena}
 use Rattle.parts.specs.Moves.{holds, by_grade}
 

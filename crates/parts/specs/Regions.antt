@@ -1,5 +1,5 @@
 -- Regions of states, and their greatest and least fixed points.
-use Rattle.std.specs.Prelude.{◌≡◌, ℕ, zero, suc, ◌<◌, Bool, true, false, cond, List, map, length, slice_index_or}
+use Rattle.std.specs.Prelude.{ℕ, zero, suc, Bool, true, false, cond, List, map, slice_index_or}
 use Rattle.std.specs.List.{range_with_len}
 use Rattle.site.specs.Arena.{Arena}
 use Rattle.site.specs.Counting.{some}

@@ -1,5 +1,5 @@
 -- What a row holds after a pass that writes some of its states.
-use Rattle.std.specs.Prelude.{◌≡◌, ℕ, ◌<◌, Bool, false, cond, ◌&&◌, ltb, List, ◌==◌, nat_le, nat_lt}
+use Rattle.std.specs.Prelude.{◌≡◌, ℕ, Bool, false, cond, ◌&&◌, ltb, List, ◌==◌, nat_le, nat_lt}
 use Rattle.site.specs.Arena.{Arena}
 use Rattle.parts.specs.Moves.{blocks, by_grade}
 use Rattle.parts.specs.Lifting.{at, unnumbered}

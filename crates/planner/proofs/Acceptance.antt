@@ -1,9 +1,9 @@
 -- The planned pair keeps the rules of the check.
 use Rattle.parts.specs.Regions as regions
-use Rattle.std.proofs.Common.{◌≡◌, ℕ, zero, suc, ◌+◌, ◌*◌, ◌<◌, ◌≤◌, Bool, true, false, cond, not, ◌&&◌, eqb, ◌⊎◌, List, length, sym, refl, ap, ◌∙◌, subst, inl, inr, arith}
-use Rattle.std.proofs.lemmas.Bool.{cases_Bool, cases_eq, cases_lt, both_ways, and_from, and_parts, cond-true, cond-false, not-false, not-true}
+use Rattle.std.proofs.Common.{◌≡◌, ℕ, zero, suc, ◌*◌, ◌<◌, ◌≤◌, Bool, true, false, not, eqb, List, length, sym, refl, ap, ◌∙◌, subst, inl, inr, arith}
+use Rattle.std.proofs.lemmas.Bool.{cases_Bool, and_from, and_parts, cond-true, cond-false, not-false, not-true}
 use Rattle.site.specs.Arena.{Arena, Lawful, graded}
-use Rattle.site.specs.Counting.{every, some, count}
+use Rattle.site.specs.Counting.{every}
 use Rattle.site.specs.CountingLaws.{every_at}
 use Rattle.checker.specs.Checked.{rank_kept, numbers_kept}
 use Rattle.checker.specs.Leaves.{leaf_at, reply_at, is_covered}
@@ -14,15 +14,15 @@ use Rattle.checker.proofs.Laws.{rank_decides, numbers_decides}
 use Rattle.parts.specs.Moves.{holds, blocks, by_grade}
 use Rattle.parts.specs.Regions.{has, level, stage, round, covered, nothing, F, G, greatest, iterate, least, lowest}
 use Rattle.parts.proofs.Forces.{every_from, holds_is, blocks_is, levels_grow, stages_grow}
-use Rattle.parts.proofs.Heights.{level_is, level_below, holds_nothing}
+use Rattle.parts.proofs.Heights.{level_is, holds_nothing}
 use Rattle.parts.proofs.Ladders.{Added, step_bound, lowest_added}
-use Rattle.parts.proofs.Levels.{limit, limit_step, level_bound}
-use Rattle.parts.proofs.Lowest.{lowest_min, lowest_passes, lowest_ways, lowest_le}
+use Rattle.parts.proofs.Levels.{limit_step, level_bound}
+use Rattle.parts.proofs.Lowest.{lowest_min, lowest_passes}
 use Rattle.parts.proofs.Peeling.{covered_fixed, covered_size, stage_jump, stage_below}
-use Rattle.parts.proofs.Regions.{Within, has_below, nothing_has, rising_least, rising_mono}
+use Rattle.parts.proofs.Regions.{Within, has_below, nothing_has, rising_least}
 use Rattle.parts.proofs.Turns.{turn, round_grows, round_jump, round_in, round_rule, round_last}
 use Rattle.parts.proofs.Worded.{covered_not, words}
-use Rattle.planner.specs.Choices.{Numbers, keeps_rule, answers_rule, chosen_command, chosen_reply, chosen_leaf, leaves_written, replies_written}
+use Rattle.planner.specs.Choices.{keeps_rule, answers_rule, chosen_command, chosen_reply, chosen_leaf, leaves_written, replies_written}
 use Rattle.planner.specs.Planned.{numbers}
 use Rattle.planner.proofs.Written.{leaves_length, replies_length, leaf_written, reply_written}
 

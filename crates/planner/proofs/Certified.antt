@@ -1,14 +1,13 @@
 -- The whole promise, and that the check repeats what planning answered.
-use Rattle.std.proofs.Common.{◌≡◌, ℕ, ◌*◌, ◌<◌, ◌≤◌, Bool, true, false, cond, not, ltb, List, length, replicate, is_ok, Ok, Err, Result, sym, refl, ap, ◌∙◌, inl, inr, arith}
+use Rattle.std.proofs.Common.{◌≡◌, ℕ, ◌*◌, ◌≤◌, Bool, true, false, not, ltb, List, length, replicate, is_ok, Ok, Err, Result, refl, ap, ◌∙◌, arith}
 use lib.ListN.{length-replicate}
-use Rattle.std.proofs.lemmas.Bool.{cases_Bool, cond-true, cond-false, ltb-false, ltb-true, both_ways, false≢true}
+use Rattle.std.proofs.lemmas.Bool.{false≢true}
 use Rattle.site.specs.Arena.{Arena, Lawful}
 use Rattle.site.specs.Counting.{count}
 use Rattle.site.specs.Refusals.{Refusal, unless, and_then}
 use Rattle.checker.specs.Checked.{checked, counts, in_turn, state_tested}
 use Rattle.checker.specs.Leaves.{leaf_at, is_covered}
 use Rattle.checker.specs.Witness.{Accepted}
-use Rattle.checker.specs.declared.leaves.Counts.{Counts}
 use Rattle.checker.specs.declared.leaves.Leaf.{Leaf}
 use Rattle.checker.specs.declared.leaves.Leaf.TheVariants.{Covered}
 use Rattle.checker.proofs.Laws.{checked_decides}

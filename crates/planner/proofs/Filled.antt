@@ -1,6 +1,6 @@
 -- Rows that hold the numbers of a site, and slices that fit exactly.
 use Rattle.parts.specs.Regions as regions
-use Rattle.std.proofs.Common.{◌≡◌, ℕ, suc, ◌+◌, ◌*◌, ◌<◌, ◌≤◌, Bool, true, false, cond, not, ◌&&◌, eqb, ltb, leb, List, ◌++◌, length, drop, Ok, sym, refl, ap, ◌∙◌, inl, inr, zero-add, arith}
+use Rattle.std.proofs.Common.{◌≡◌, ℕ, suc, ◌*◌, ◌<◌, ◌≤◌, Bool, true, false, cond, ltb, leb, List, ◌++◌, length, Ok, sym, refl, ap, ◌∙◌, inl, inr, zero-add, arith}
 use Rattle.checker.specs.declared.leaves.Counts.{Counts}
 use Rattle.site.specs.Refusals.{unless}
 use Rattle.std.proofs.lemmas.List.FromFn.{get_or-map-range_with_len}
@@ -10,7 +10,6 @@ use Rattle.site.specs.Arena.{Arena, Lawful, graded}
 use Rattle.parts.specs.Lifting.{at, none, unnumbered}
 use Rattle.parts.specs.Rows.{row, first_row, rank_row, second_row, rows_fit, row_after}
 use Rattle.parts.proofs.Lowest.{lowest_le}
-use Rattle.planner.specs.Choices.{Numbers}
 use Rattle.planner.specs.Planned.{numbers, roomy, parts_counted, planned_answer}
 use Rattle.planner.proofs.Agreed.{Agree}
 

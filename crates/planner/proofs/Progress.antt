@@ -1,5 +1,5 @@
 -- Writing state after state: what stands after the first k states.
-use Rattle.std.proofs.Common.{◌≡◌, ℕ, ◌+◌, ◌*◌, ◌≤◌, Bool, true, false, cond, not, List, set, sym, refl, ap, ◌∙◌, add-one, arith}
+use Rattle.std.proofs.Common.{◌≡◌, ℕ, ◌+◌, ◌*◌, ◌≤◌, true, false, cond, not, List, set, ap, ◌∙◌, add-one, arith}
 use Rattle.site.specs.Arena.{Arena}
 use Rattle.site.specs.Counting.{count}
 use Rattle.site.specs.Laid.{laid}

@@ -1,5 +1,5 @@
 -- The leaves and replies that go with given numbers: the lowest moves that keep the rules of the check.
-use Rattle.std.specs.Prelude.{ℕ, zero, suc, ◌+◌, ◌*◌, Bool, cond, not, ◌&&◌, List, map, slice_set}
+use Rattle.std.specs.Prelude.{ℕ, zero, suc, ◌*◌, Bool, cond, not, ◌&&◌, List, map, slice_set}
 use Rattle.std.specs.List.{range_with_len}
 use Rattle.site.specs.Arena.{Arena}
 use Rattle.site.specs.Counting.{every}

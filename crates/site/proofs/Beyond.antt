@@ -1,12 +1,12 @@
 -- Entries of sheets beyond those of a table's states have no effect.
-use Rattle.std.proofs.Common.{◌≡◌, ℕ, zero, suc, ◌+◌, ◌*◌, ◌<◌, ◌≤◌, Bool, true, false, cond, ◌&&◌, ltb, leb, List, length, get_or, sym, refl, ap, ◌∙◌, inl, inr, arith}
+use Rattle.std.proofs.Common.{◌≡◌, ℕ, zero, suc, ◌+◌, ◌*◌, ◌<◌, ◌≤◌, Bool, cond, ◌&&◌, ltb, leb, List, length, get_or, sym, refl, ap, ◌∙◌, inl, inr, arith}
 use mathlib.Core.Path.{fun_ext}
 use Rattle.std.proofs.lemmas.Bool.{cases_lt, cases_Bool, cond-true, cond-false, and_left, and_parts, le-leb, le-ltb, ltb-true}
 use Rattle.site.specs.Arena.{Arena}
 use Rattle.site.specs.Counting.{every}
 use Rattle.site.specs.Grades.{grade_number}
-use Rattle.site.specs.TableLaws.{Fair, fair_is, arrow_place, arrows_mono, cond_past}
-use Rattle.site.specs.Tables.{row_at, row_fair, row_ok, arrow_fair, arrows_before, fair, has_move, table, resting, made_from, SameFront, NothingBeyond}
+use Rattle.site.specs.TableLaws.{Fair, fair_is, arrow_place, cond_past}
+use Rattle.site.specs.Tables.{row_at, row_fair, arrow_fair, arrows_before, fair, has_move, table, SameFront, NothingBeyond}
 use Rattle.site.specs.declared.sheets.Row.{Row}
 
 -- tests that agree below n

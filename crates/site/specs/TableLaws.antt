@@ -1,9 +1,8 @@
 -- Laws of tables: fair sheets stand for a lawful site.
-use Rattle.std.specs.Prelude.{◌≡◌, ℕ, zero, suc, ◌+◌, ◌*◌, ◌<◌, ◌≤◌, Bool, true, false, cond, ◌&&◌, List, length, nat_lt, slice_index, refl}
-use Rattle.std.proofs.Common.{mul-le-mul, mul-le-mul_right, suc-mul, arith, sym, ◌∙◌, ap, inl, inr}
-use Rattle.std.proofs.lemmas.Bool.{and_parts, eqb-true, leb-true, ltb-true, cases_eq, cond-true, cond-false, cond_both, lt-ltb, le-ltb, and_from, and_left, and_right, cases_Bool, cases_lt}
-use Rattle.site.specs.Arena.{Arena, Lawful}
-use Rattle.site.specs.Counting.{every}
+use Rattle.std.specs.Prelude.{◌≡◌, ℕ, zero, suc, ◌+◌, ◌*◌, ◌<◌, ◌≤◌, true, cond, List, length, nat_lt, slice_index}
+use Rattle.std.proofs.Common.{mul-le-mul, mul-le-mul_right, suc-mul, arith, inl, inr}
+use Rattle.std.proofs.lemmas.Bool.{and_parts, eqb-true, leb-true, ltb-true, cases_eq, cond-true, cond-false, cond_both, lt-ltb, le-ltb, and_from, and_left, and_right, cases_lt}
+use Rattle.site.specs.Arena.{Lawful}
 use Rattle.site.specs.Grades.{grade_number}
 use Rattle.site.specs.declared.grades.Grade.{Grade}
 use Rattle.site.specs.declared.grades.Grade.TheVariants.{Confirmed, Doubted, Ordinary}

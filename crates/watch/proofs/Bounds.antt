@@ -1,5 +1,5 @@
 -- Bounds of what a lawful site answers.
-use Rattle.std.proofs.Common.{ℕ, ◌<◌, ◌≤◌, inl, inr, arith}
+use Rattle.std.proofs.Common.{ℕ, ◌≤◌, inl, inr, arith}
 use Rattle.std.proofs.lemmas.Bool.{cases_lt}
 use Rattle.site.specs.Arena.{Arena, Lawful}
 

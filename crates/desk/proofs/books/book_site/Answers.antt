@@ -1,9 +1,8 @@
-use Rattle.std.proofs.Common.{◌≡◌, ℕ, ◌+◌, ◌*◌, ◌≤◌, length, take, Ok, sym, ap, ◌∙◌, arith}
+use Rattle.std.proofs.Common.{◌≡◌, ◌+◌, ◌*◌, length, take, ap, ◌∙◌, arith}
 use Rattle.std.proofs.lemmas.Result.{err_from_is_err_and}
-use Rattle.site.specs.Refusals.{told}
 use Rattle.records.specs.BookWritten.{book_bytes}
 use Rattle.records.specs.Buffers.{counted}
-use Rattle.desk.specs.PlannedSites.{own_leaves, own_replies, own_book}
+use Rattle.desk.specs.PlannedSites.{own_leaves, own_replies}
 use Rattle.desk.proofs.Fitting.{whole, own_leaves_long, own_replies_long}
 use Rattle.desk.proofs.Lines.{text_is, same_number}
 use Rattle.desk.proofs.Longest.{book_made, not_refused, book_short}

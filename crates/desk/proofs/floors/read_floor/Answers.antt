@@ -1,9 +1,7 @@
-use Rattle.std.proofs.Common.{◌≡◌, ℕ, true, ◌++◌, length, take, drop, replicate, Ok, Err, sym, ap, ◌∙◌, subst, arith}
+use Rattle.std.proofs.Common.{◌≡◌, ◌++◌, length, take, drop, ap, ◌∙◌, arith}
 use Rattle.std.proofs.lemmas.Result.{err_from_is_err_and}
-use Rattle.site.specs.Refusals.{told}
 use Rattle.site.specs.Tables.{fair}
 use Rattle.records.specs.TableRead.{table_read, sized, rows_after, arrows_after}
-use Rattle.desk.specs.ReadFloors.{blank}
 use Rattle.desk.proofs.Fitting.{whole}
 use Rattle.desk.proofs.floors.read_floor.Goals as goal
 

@@ -1,4 +1,4 @@
-use Rattle.std.proofs.Common.{◌++◌, vec_items, refl, ap, ◌∙◌, arith}
+use Rattle.std.proofs.Common.{◌++◌, vec_items, ap, ◌∙◌, arith}
 use Rattle.desk.proofs.Lines.{front_is, state_line_is}
 use Rattle.desk.proofs.listings.add_line.Goals as goal
 

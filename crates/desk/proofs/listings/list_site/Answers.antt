@@ -1,5 +1,4 @@
-use Rattle.std.proofs.Common.{◌≡◌, ℕ, ◌*◌, List, ◌++◌, length, sym, ap, ◌∙◌, add-one, arith}
-use Rattle.checker.specs.declared.leaves.Leaf.{Leaf}
+use Rattle.std.proofs.Common.{◌≡◌, ◌++◌, length, sym, ap, ◌∙◌, add-one, arith}
 use Rattle.records.specs.Lines.{state_text}
 use Rattle.desk.specs.Listings.{lines_to}
 use Rattle.desk.specs.PlannedSites.{own_leaves, own_replies}

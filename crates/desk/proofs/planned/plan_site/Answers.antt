@@ -1,4 +1,4 @@
-use Rattle.std.proofs.Common.{◌≡◌, ◌*◌, length, replicate, sym, ap, ◌∙◌, arith}
+use Rattle.std.proofs.Common.{◌≡◌, ◌*◌, length, replicate, ap, ◌∙◌, arith}
 use Rattle.checker.specs.declared.leaves.Leaf.TheVariants.{Open}
 use Rattle.desk.proofs.Fitting.{whole, leaves_fit, replies_fit, counts_fit, same_ok}
 use Rattle.desk.proofs.planned.plan_site.Goals as goal

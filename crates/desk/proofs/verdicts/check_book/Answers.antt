@@ -1,8 +1,6 @@
-use Rattle.std.proofs.Common.{◌≡◌, ℕ, ◌*◌, length, replicate, sym, ap, ◌∙◌, arith}
+use Rattle.std.proofs.Common.{◌≡◌, ◌*◌, replicate, ap, ◌∙◌, arith}
 use Rattle.std.proofs.lemmas.Result.{err_from_is_err_and}
-use Rattle.checker.specs.Checked.{checked}
 use Rattle.checker.specs.declared.leaves.Leaf.TheVariants.{Open}
-use Rattle.desk.specs.Verdicts.{book_verdict}
 use Rattle.desk.proofs.Fitting.{whole}
 use Rattle.desk.proofs.Readings.{book_checked}
 use Rattle.desk.proofs.verdicts.check_book.Goals as goal

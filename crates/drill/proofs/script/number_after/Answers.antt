@@ -1,7 +1,6 @@
-use Rattle.std.proofs.Common.{◌≡◌, ℕ, ◌^◌, ◌<◌, List, ◌++◌, length, drop, sym, ap, ◌∙◌, subst}
+use Rattle.std.proofs.Common.{◌≡◌, ◌^◌, ◌<◌, drop, sym, ap, ◌∙◌, subst}
 use Rattle.std.specs.Str.Parse.{IsNumeral, digits_value, without_leading_plus}
 use Rattle.std.proofs.lemmas.List.{drop_at}
-use Rattle.drill.specs.Script.{Says}
 use Rattle.drill.proofs.script.number_after.Goals as goal
 
 pub returns-in-Err : goal.returns-in-Err

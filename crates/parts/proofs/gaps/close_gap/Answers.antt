@@ -1,4 +1,4 @@
-use Rattle.std.proofs.Common.{◌≡◌, ℕ, cond, ltb, ap, ◌∙◌, arith}
+use Rattle.std.proofs.Common.{cond, ltb, ap, ◌∙◌, arith}
 use Rattle.parts.specs.Lifting.{at}
 use Rattle.parts.proofs.Cuts.{cut_at}
 use Rattle.parts.proofs.gaps.close_gap.Goals as goal

@@ -1,4 +1,4 @@
-use Rattle.std.proofs.Common.{refl, arith}
+use Rattle.std.proofs.Common.{refl}
 use Rattle.parts.proofs.Cuts.{marked_more, marked_past}
 use Rattle.parts.proofs.gaps.mark_used.Goals as goal
 use Rattle.parts.proofs.gaps.mark_used.Goals.{then-number-marks, else-number-marks}

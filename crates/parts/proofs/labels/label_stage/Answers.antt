@@ -1,7 +1,7 @@
 use Rattle.std.proofs.Common.{◌≡◌, length, sym, ap, ◌∙◌, add-one, arith}
 use Rattle.site.specs.Counting.{some}
 use Rattle.parts.specs.Written.{waiting}
-use Rattle.parts.proofs.Turns.{Labelled, begun, rounded, label_done, label_last}
+use Rattle.parts.proofs.Turns.{begun, rounded, label_done, label_last}
 use Rattle.parts.proofs.labels.label_stage.Goals as goal
 
 pub loop-j-init : goal.loop-j-init

@@ -1,4 +1,4 @@
-use Rattle.std.proofs.Common.{◌≡◌, ℕ, Bool, sym, refl, ap, ◌∙◌, arith}
+use Rattle.std.proofs.Common.{ℕ, Bool, sym, refl, ◌∙◌, arith}
 use Rattle.parts.specs.Written.{due}
 use Rattle.parts.proofs.Writes.{written_set, written_skip, due_same}
 use Rattle.parts.proofs.labels.round.Goals as goal

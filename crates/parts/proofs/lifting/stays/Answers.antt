@@ -1,6 +1,6 @@
 use Rattle.std.proofs.Common.{◌≡◌, ℕ, Bool, sym, ap, ◌∙◌, arith}
 use Rattle.std.proofs.lemmas.Bool.{eq-eqb, ne_eqb}
-use Rattle.site.specs.Counting.{every, some}
+use Rattle.site.specs.Counting.{every}
 use Rattle.site.specs.CountingLaws.{every_fails, every_more}
 use Rattle.parts.specs.Lifting.{unnumbered}
 use Rattle.parts.proofs.Steps.{some_none, some_at}

@@ -1,7 +1,6 @@
-use Rattle.std.proofs.Common.{◌≡◌, true, cond, set, sym, ap, ◌∙◌, arith}
-use Rattle.std.proofs.lemmas.Bool.{cond-true, cond-false}
-use Rattle.parts.specs.Lifting.{at, unnumbered, value, visit}
-use Rattle.parts.proofs.Raises.{Swept, swept_raised, swept_kept, swept_calm, visit_below}
+use Rattle.std.proofs.Common.{◌≡◌, sym, ap, ◌∙◌, arith}
+use Rattle.parts.specs.Lifting.{unnumbered, visit}
+use Rattle.parts.proofs.Raises.{swept_raised, swept_kept, swept_calm, visit_below}
 use Rattle.parts.proofs.lifting.sweep.Goals as goal
 use Rattle.parts.proofs.lifting.sweep.Goals.{then-raise, else-raise}
 

@@ -1,4 +1,4 @@
-use Rattle.std.proofs.Common.{◌≡◌, ℕ, suc, ◌<◌, cond, sym, ◌∙◌, arith}
+use Rattle.std.proofs.Common.{suc, cond, arith}
 use Rattle.std.proofs.lemmas.List.FromFn.{fill_by_all}
 use Rattle.site.specs.Arena.{graded}
 use Rattle.parts.specs.Lifting.{none}

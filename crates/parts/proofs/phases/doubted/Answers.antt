@@ -1,4 +1,4 @@
-use Rattle.std.proofs.Common.{◌≡◌, ℕ, Bool, eqb, sym, arith}
+use Rattle.std.proofs.Common.{ℕ, Bool, eqb, sym, arith}
 use Rattle.parts.proofs.Steps.{count_in, count_out}
 use Rattle.parts.proofs.phases.doubted.Goals as goal
 use Rattle.parts.proofs.phases.doubted.Goals.{then-is_doubted, else-is_doubted}

@@ -1,10 +1,9 @@
-use Rattle.std.proofs.Common.{◌≡◌, ℕ, suc, ◌+◌, ◌≤◌, true, length, sym, refl, ap, ◌∙◌, subst, add-one, arith}
-use Rattle.site.specs.Counting.{some}
-use Rattle.parts.specs.Lifting.{at, unnumbered, Calm, Raised}
+use Rattle.std.proofs.Common.{◌≡◌, ℕ, suc, ◌+◌, true, length, ap, ◌∙◌, add-one, arith}
+use Rattle.parts.specs.Lifting.{at, unnumbered}
 use Rattle.parts.specs.Written.{lost}
-use Rattle.parts.proofs.Heights.{top_of, height}
+use Rattle.parts.proofs.Heights.{top_of}
 use Rattle.parts.proofs.Backing.{backed_less}
-use Rattle.parts.proofs.Peeling.{Peeled, Under, Settled, peeled_none, phase_more, phase_last}
+use Rattle.parts.proofs.Peeling.{peeled_none, phase_more, phase_last}
 use Rattle.parts.proofs.Steps.{graded_le}
 use Rattle.parts.proofs.Writes.{filled_zero, filled_within, still_unnumbered}
 use Rattle.parts.proofs.phases.phases.Goals as goal

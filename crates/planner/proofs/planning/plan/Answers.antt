@@ -1,6 +1,6 @@
-use Rattle.std.proofs.Common.{◌≡◌, ◌-◌, ◌*◌, length, sym, refl, ap, ◌∙◌, arith}
+use Rattle.std.proofs.Common.{◌-◌, ◌*◌, length, sym, ◌∙◌, arith}
 use Rattle.std.proofs.lemmas.Slice.{drop-append-drop}
-use Rattle.std.proofs.lemmas.Bool.{cond-true, le-ltb}
+use Rattle.std.proofs.lemmas.Bool.{cond-true}
 use Rattle.planner.proofs.Filled.{roomy_from, roomy_answer}
 use Rattle.planner.proofs.planning.plan.Goals as goal
 

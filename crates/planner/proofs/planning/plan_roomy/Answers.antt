@@ -1,9 +1,7 @@
-use Rattle.std.proofs.Common.{◌≡◌, length, Ok, sym, ap, ◌∙◌, arith}
-use Rattle.checker.specs.declared.leaves.Counts.{Counts}
+use Rattle.std.proofs.Common.{Ok, ap, ◌∙◌, arith}
 use Rattle.parts.specs.Rows.{first_row, rank_row, second_row}
-use Rattle.planner.specs.Choices.{Numbers}
 use Rattle.planner.specs.Planned.{numbers}
-use Rattle.planner.proofs.Agreed.{Agree, leaves_written_agree, replies_written_agree, counted_agree}
+use Rattle.planner.proofs.Agreed.{leaves_written_agree, replies_written_agree, counted_agree}
 use Rattle.planner.proofs.Filled.{exact, rows_agree}
 use Rattle.planner.proofs.planning.plan_roomy.Goals as goal
 

@@ -1,4 +1,4 @@
-use Rattle.std.proofs.Common.{◌≡◌, ℕ, ◌<◌, length, sym, refl, ap, ◌∙◌, arith}
+use Rattle.std.proofs.Common.{sym, arith}
 use Rattle.site.proofs.Laid.{laid_none}
 use Rattle.planner.specs.Choices.{answers_rule, chosen_reply}
 use Rattle.planner.specs.Rows.{numbers_in}

@@ -1,4 +1,4 @@
-use Rattle.std.proofs.Common.{◌≡◌, sym, arith}
+use Rattle.std.proofs.Common.{sym, arith}
 use Rattle.planner.specs.Rows.{numbers_in}
 use Rattle.planner.proofs.Progress.{progress_covered, progress_open, progress_few}
 use Rattle.planner.proofs.writing.write_states.Goals as goal

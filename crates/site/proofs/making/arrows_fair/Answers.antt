@@ -1,4 +1,4 @@
-use Rattle.std.proofs.Common.{◌≡◌, sym, arith}
+use Rattle.std.proofs.Common.{sym, arith}
 use Rattle.std.proofs.lemmas.Bool.{lt-ltb, le-ltb}
 use Rattle.site.specs.CountingLaws.{every_fails, every_more}
 use Rattle.site.specs.Fronts.{front_below, front_read}

@@ -1,4 +1,4 @@
-use Rattle.std.proofs.Common.{◌≡◌, sym}
+use Rattle.std.proofs.Common.{sym}
 use Rattle.std.proofs.lemmas.Bool.{cond-false}
 use Rattle.site.specs.Fronts.{front_below, front_read}
 use Rattle.site.specs.Tables.{no_row}
