@@ -102,7 +102,8 @@ def main():
     with open("crates.txt", "w", encoding="utf-8") as f:
         f.write("".join(re.sub(r"(?<!\S)check(?=[:\s]|$)", "checker", line) + "\n" for line in lines))
     for folder in ("crates", "planted"):
-        os.rename(f"{folder}/check", f"{folder}/checker")
+        if os.path.isdir(f"{folder}/check"):
+            os.rename(f"{folder}/check", f"{folder}/checker")
 
 
 if __name__ == "__main__":
