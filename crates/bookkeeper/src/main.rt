@@ -6,22 +6,23 @@ use desk::books::book_floor;
 use desk::failures::Failure;
 use desk::input::read_input;
 use std::io::Write;
+use std::process::ExitCode;
 
 // One byte more than the longest table has, by which a longer input shows.
 const LONGEST_TABLE: usize = 53252;
 
-fn main(rt: HostRuntime) -> anyhow::Result<()> {
+fn main(rt: HostRuntime) -> anyhow::Result<ExitCode> {
     let bytes = read_input(&rt, LONGEST_TABLE)?;
     match book_floor(rt.alloc(), bytes.as_slice()) {
         Ok(book) => {
             rt.stdout().write_all(book.as_slice())?;
-            Ok(())
+            Ok(ExitCode::SUCCESS)
         }
         Err(Failure::Refused(fault)) => {
             let number = fault.number();
             let place = fault.place();
             println!(rt; "refused {number} at {place}")?;
-            Err(anyhow!("the floor was refused"))
+            Ok(ExitCode::FAILURE)
         }
         Err(Failure::NoMemory) => Err(anyhow!("out of memory")),
     }

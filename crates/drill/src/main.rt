@@ -14,6 +14,7 @@ use desk::floors::read_floor;
 use site::faults::Fault;
 use site::interface::Site;
 use site::tables::Table;
+use std::process::ExitCode;
 use std::{env, fs};
 
 // Prints what one call answered.
@@ -81,18 +82,18 @@ fn run(rt: &HostRuntime) -> Result<(), Problem> {
     drill(rt, floor.as_slice())
 }
 
-fn main(rt: HostRuntime) -> anyhow::Result<()> {
+fn main(rt: HostRuntime) -> anyhow::Result<ExitCode> {
     match run(&rt) {
-        Ok(()) => Ok(()),
+        Ok(()) => Ok(ExitCode::SUCCESS),
         Err(Problem::Refused(fault)) => {
             let number = fault.number();
             let place = fault.place();
             println!(rt; "refused {number} at {place}")?;
-            Err(anyhow!("the floor was refused"))
+            Ok(ExitCode::FAILURE)
         }
         Err(Problem::BadLine(line)) => {
             println!(rt; "line {line} is no call: write place, book or objection and a number")?;
-            Err(anyhow!("the script was refused"))
+            Ok(ExitCode::FAILURE)
         }
         Err(Problem::NoFloor) => Err(anyhow!("usage: drill FLOOR < SCRIPT")),
         Err(Problem::NoMemory) => Err(anyhow!("out of memory")),
