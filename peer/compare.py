@@ -87,7 +87,8 @@ def ran(command, data, parts=1):
     if parts == 1:
         done = subprocess.run(command, input=data, capture_output=True)
         return done.returncode, done.stdout
-    with subprocess.Popen(command, stdin=subprocess.PIPE, stdout=subprocess.PIPE, stderr=subprocess.DEVNULL) as program:
+    # (unbuffered, so that nothing is left to write to a program that has ended)
+    with subprocess.Popen(command, bufsize=0, stdin=subprocess.PIPE, stdout=subprocess.PIPE, stderr=subprocess.DEVNULL) as program:
         try:
             for k in range(parts - 1):
                 program.stdin.write(data[k * len(data) // parts : (k + 1) * len(data) // parts])

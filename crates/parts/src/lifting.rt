@@ -39,7 +39,8 @@ fn worst_of<S: Site>(site: &S, ranks: &[u16], s: usize, a: usize) -> u16
 fn best_of<S: Site>(site: &S, top: u16, ranks: &[u16], s: usize) -> u16
     requires long { length ranks.now ≡ (S.Site.arena site.now).states }
     requires state { s < (S.Site.arena site.now).states }
-    ensures { result ≡ best (S.Site.arena site.now) top (at ranks.now) s ((S.Site.arena site.now).commands s) }
+    ensures value { result ≡ best (S.Site.arena site.now) top (at ranks.now) s ((S.Site.arena site.now).commands s) }
+    ensures within { result ≤ top }
 {
     let mut least = top;
     for a in 0..site.commands(s) {
