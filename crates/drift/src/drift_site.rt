@@ -30,8 +30,7 @@ impl Drift {
 
     // The state that the clock comes to from an offset, by event `b`.
     fn arrived(&self, offset: usize, lost: usize, b: usize) -> usize
-        requires offset { offset < offsets }
-        requires losses { lost ≤ self.now.losses }
+        requires { (offset < offsets) × (lost ≤ self.now.losses) }
         ensures { result ≡ place_number self.now.losses (arriving (drifted self.now.step b (pos offset -ℤ pos farthest)) lost) }
     {
         let ahead = offset + b % MOVES * self.step;
@@ -43,8 +42,7 @@ impl Drift {
 
     // The state that command `a` and event `b` lead to from an offset.
     fn commanded(&self, offset: usize, lost: usize, a: usize, b: usize) -> usize
-        requires offset { offset < offsets }
-        requires losses { lost ≤ self.now.losses }
+        requires { (offset < offsets) × (lost ≤ self.now.losses) }
         ensures { result ≡ place_number self.now.losses (commanded self.now.step self.now.losses a b (pos offset -ℤ pos farthest) lost) }
     {
         if a == WAIT {

@@ -30,8 +30,7 @@ fn row_ok(row: Row, at: usize) -> bool
 
 // The number of arrows of the first `n` rows, if each of them is in order.
 fn arrows_of(n: usize, rows: &[Row]) -> Option<usize>
-    requires rows { n ≤ length rows.now }
-    requires limit { n ≤ 8192 }
+    requires { (n ≤ length rows.now) × (n ≤ 8192) }
     ensures { result ≡ (if every (row_fair rows.now) n then Some (arrows_before rows.now n) else None) }
 {
     let mut total: usize = 0;

@@ -7,7 +7,4 @@ pub commanded-requires : goal.commanded-requires
 commanded-requires c =
     let width = c.args.self.now.losses + 1 in
     let before : c.args.s < offsets * width = omega arith in
-    record {
-      offset = (div-lt_iff_lt-mul (omega arith)).1 before;
-      losses = omega (arith, mod-lt c.args.s {m = width} (omega arith));
-    }
+    ((div-lt_iff_lt-mul (omega arith)).1 before, omega (arith, mod-lt c.args.s {m = width} (omega arith)))
