@@ -1,4 +1,4 @@
-//! What the programs share: a planned site in memory of its own, and why there is none.
+//! What the programs do, from bytes to bytes and in memory of its own, and why something cannot be done.
 #![tactic(auto)]
 
 pub mod books;

@@ -1,4 +1,4 @@
-//! Tests on sample floors, drift sites and piles, through the public calls.
+//! The worked examples as one theorem, and tests on sample floors, drift sites and piles, through the public calls.
 #![tactic(auto)]
 
 #[cfg(test)]

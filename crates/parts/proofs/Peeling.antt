@@ -277,18 +277,18 @@ module _ (m : Arena) (lawful : Lawful m) where
           )
 
 -- one whole phase: lifted, and marked
-module _ (m : Arena) (lawful : Lawful m) (i top n : ℕ) (top-is : top ≡ top_of m) (n_is : n ≡ m.states) (i≤ : i ≤ m.states) (firsts before ranks after : List ℕ) (peeled : Peeled m i firsts) (under : Under m i before) (raised : Raised m top (unnumbered firsts) before ranks) (calm : Calm m top (unnumbered firsts) (at ranks)) (marked : (s : ℕ) → at after s ≡ cond (lost top ranks firsts s) i (at firsts s)) (any : Bool) (any_is : any ≡ some (lost top ranks firsts) n) where
+module _ (m : Arena) (lawful : Lawful m) (i top n : ℕ) (top_is : top ≡ top_of m) (n_is : n ≡ m.states) (i≤ : i ≤ m.states) (firsts before ranks after : List ℕ) (peeled : Peeled m i firsts) (under : Under m i before) (raised : Raised m top (unnumbered firsts) before ranks) (calm : Calm m top (unnumbered firsts) (at ranks)) (marked : (s : ℕ) → at after s ≡ cond (lost top ranks firsts s) i (at firsts s)) (any : Bool) (any_is : any ≡ some (lost top ranks firsts) n) where
   lifted : Settled m i ranks
   lifted =
       settled m lawful i i≤ firsts peeled before ranks under
-      (subst (λ t. Raised m t (unnumbered firsts) before ranks) top-is raised)
-      (subst (λ t. Calm m t (unnumbered firsts) (at ranks)) top-is calm)
+      (subst (λ t. Raised m t (unnumbered firsts) before ranks) top_is raised)
+      (subst (λ t. Calm m t (unnumbered firsts) (at ranks)) top_is calm)
 
   marks : (s : ℕ) → at after s ≡ cond (lost (top_of m) ranks firsts s) i (at firsts s)
-  marks = subst (λ t. (s : ℕ) → at after s ≡ cond (lost t ranks firsts s) i (at firsts s)) top-is marked
+  marks = subst (λ t. (s : ℕ) → at after s ≡ cond (lost t ranks firsts s) i (at firsts s)) top_is marked
 
   found : some (lost (top_of m) ranks firsts) m.states ≡ any
-  found = sym (any_is ∙ (ap (λ t. some (lost t ranks firsts) n) top-is ∙ ap (some (lost (top_of m) ranks firsts)) n_is))
+  found = sym (any_is ∙ (ap (λ t. some (lost t ranks firsts) n) top_is ∙ ap (some (lost (top_of m) ranks firsts)) n_is))
 
   pub phase_more : any ≡ true → Peeled m (i + 1) after × Under m (i + 1) ranks × (i + 1 ≤ m.states)
   phase_more h = peeled_more m lawful i i≤ firsts peeled ranks lifted after marks (found ∙ h)

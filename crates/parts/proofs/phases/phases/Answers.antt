@@ -31,15 +31,15 @@ settle-requires g c = record { limit = omega (arith, c.doubted.ensures, graded_l
 pub returns-then-not-mark : goal.returns-then-not-mark
 returns-then-not-mark g c =
     let m = g.S.Site.arena c.args.site.now in
-    let top-is : c.doubted.result + 1 ≡ top_of m = add-one c.doubted.result ∙ ap suc c.doubted.ensures in
-    let last = phase_last m (g.S.Site.lawful c.args.site.now) c.loop-i.i (c.doubted.result + 1) (length c.loop-i.firsts) top-is (omega arith) c.loop-i.invariant.3 c.loop-i.firsts c.loop-i.ranks c.settle.new.ranks c.mark.new.firsts c.loop-i.invariant.1 c.loop-i.invariant.2 c.settle.ensures.raised c.settle.ensures.calm c.mark.ensures.marked c.mark.result c.mark.ensures.any c.if-not-mark.true in
+    let top_is : c.doubted.result + 1 ≡ top_of m = add-one c.doubted.result ∙ ap suc c.doubted.ensures in
+    let last = phase_last m (g.S.Site.lawful c.args.site.now) c.loop-i.i (c.doubted.result + 1) (length c.loop-i.firsts) top_is (omega arith) c.loop-i.invariant.3 c.loop-i.firsts c.loop-i.ranks c.settle.new.ranks c.mark.new.firsts c.loop-i.invariant.1 c.loop-i.invariant.2 c.settle.ensures.raised c.settle.ensures.calm c.mark.ensures.marked c.mark.result c.mark.ensures.any c.if-not-mark.true in
     record { firsts = last.0; ranks = last.1 }
 
 pub loop-i-preserved : goal.loop-i-preserved
 loop-i-preserved g c =
     let m = g.S.Site.arena c.args.site.now in
-    let top-is : c.doubted.result + 1 ≡ top_of m = add-one c.doubted.result ∙ ap suc c.doubted.ensures in
-    let next = phase_more m (g.S.Site.lawful c.args.site.now) c.loop-i.i (c.doubted.result + 1) (length c.loop-i.firsts) top-is (omega arith) c.loop-i.invariant.3 c.loop-i.firsts c.loop-i.ranks c.settle.new.ranks c.mark.new.firsts c.loop-i.invariant.1 c.loop-i.invariant.2 c.settle.ensures.raised c.settle.ensures.calm c.mark.ensures.marked c.mark.result c.mark.ensures.any c.if-not-mark.false in
+    let top_is : c.doubted.result + 1 ≡ top_of m = add-one c.doubted.result ∙ ap suc c.doubted.ensures in
+    let next = phase_more m (g.S.Site.lawful c.args.site.now) c.loop-i.i (c.doubted.result + 1) (length c.loop-i.firsts) top_is (omega arith) c.loop-i.invariant.3 c.loop-i.firsts c.loop-i.ranks c.settle.new.ranks c.mark.new.firsts c.loop-i.invariant.1 c.loop-i.invariant.2 c.settle.ensures.raised c.settle.ensures.calm c.mark.ensures.marked c.mark.result c.mark.ensures.any c.if-not-mark.false in
     let few = (g.S.Site.lawful c.args.site.now).limited in
     let fewer : (t : ℕ) → unnumbered c.mark.new.firsts t ≡ true → unnumbered c.loop-i.firsts t ≡ true = still_unnumbered c.loop-i.i (lost (c.doubted.result + 1) c.settle.new.ranks c.loop-i.firsts) c.loop-i.firsts c.mark.new.firsts (omega arith) c.mark.ensures.marked in
     (c.settle.ensures.raised.capped, next.0, next.1, next.2, backed_less m (g.S.Site.lawful c.args.site.now) (c.doubted.result + 1) (unnumbered c.loop-i.firsts) (unnumbered c.mark.new.firsts) fewer (at c.settle.new.ranks) (c.settle.ensures.raised.backed c.loop-i.invariant.4))
