@@ -1,38 +1,38 @@
 -- Entries of sheets beyond those of a table's states have no effect.
-use Rattle.std.proofs.Common.{◌≡◌, ℕ, zero, suc, ◌+◌, ◌*◌, ◌<◌, ◌≤◌, Bool, cond, ◌&&◌, ltb, leb, List, length, get_or, sym, refl, ap, ◌∙◌, inl, inr, arith}
+use Rattle.std.proofs.Common.{◌≡◌, ℕ, zero, suc, ◌+◌, ◌*◌, ◌<◌, ◌≤◌, cond, ◌&&◌, ltb, leb, List, length, get_or, sym, refl, ap, ◌∙◌, inl, inr, arith}
 use mathlib.Core.Path.{fun_ext}
 use Rattle.std.proofs.lemmas.Bool.{cases_lt, cases_Bool, cond-true, cond-false, and_left, and_parts, le-leb, le-ltb, ltb-true}
 use Rattle.site.specs.Arena.{Arena}
 use Rattle.site.specs.Counting.{every}
+use Rattle.site.specs.CountingLaws.{every_agree}
 use Rattle.site.specs.Grades.{grade_number}
 use Rattle.site.specs.TableLaws.{Fair, fair_is, arrow_place, cond_past}
 use Rattle.site.specs.Tables.{row_at, row_fair, arrow_fair, arrows_before, fair, has_move, table, SameFront, NothingBeyond}
 use Rattle.site.specs.declared.sheets.Row.{Row}
 
--- tests that agree below n
-every_agree : (p q : ℕ → Bool) (n : ℕ) → ((k : ℕ) → k < n → p k ≡ q k) → every p n ≡ every q n
-every_agree p q zero h = refl
-every_agree p q (suc n) h = rw (h n (omega arith), every_agree p q n (λ k lt. h k (omega arith))) refl
+module _ (n : ℕ) (rows rows' : List Row) (agree : (s : ℕ) → s < n → row_at rows s ≡ row_at rows' s) where
+  -- rows that agree have their arrows at the same places
+  pub before_same : (s : ℕ) → s ≤ n → arrows_before rows s ≡ arrows_before rows' s
+  before_same zero le = refl
+  before_same (suc s) le = rw (before_same s (omega arith), agree s (omega arith)) refl
+
+  -- and are in order alike
+  pub rows_same : every (row_fair rows) n ≡ every (row_fair rows') n
+  rows_same = every_agree (row_fair rows) (row_fair rows') n (λ s lt. rw (agree s lt, before_same s (omega arith)) refl)
 
 module _ (n : ℕ) (rows rows' : List Row) (arrows arrows' : List ℕ) (same : SameFront n rows rows' arrows arrows') where
-  before_same : (s : ℕ) → s ≤ n → arrows_before rows s ≡ arrows_before rows' s
-  before_same zero le = refl
-  before_same (suc s) le = rw (before_same s (omega arith), same.row s (omega arith)) refl
-
-  fair_rows : every (row_fair rows) n ≡ every (row_fair rows') n
-  fair_rows = every_agree (row_fair rows) (row_fair rows') n (λ s lt. rw (same.row s lt, before_same s (omega arith)) refl)
-
+  -- arrows that agree lead to states alike
   fair_arrows : every (arrow_fair n arrows) (arrows_before rows n) ≡ every (arrow_fair n arrows') (arrows_before rows' n)
   fair_arrows =
       every_agree (arrow_fair n arrows) (arrow_fair n arrows') (arrows_before rows n) (λ i lt. ap (λ t. ltb t n) (same.arrow i lt))
-      ∙ ap (every (arrow_fair n arrows')) (before_same n (omega arith))
+      ∙ ap (every (arrow_fair n arrows')) (before_same n rows rows' same.row n (omega arith))
 
   -- both pairs are fair or neither is
-  fair_same : fair n rows arrows ≡ fair n rows' arrows'
+  pub fair_same : fair n rows arrows ≡ fair n rows' arrows'
   fair_same =
       let long = le-leb n (length rows) same.long_rows ∙ sym (le-leb n (length rows') same.long_rows') in
-      let wide : leb (arrows_before rows n) (length arrows) ≡ leb (arrows_before rows' n) (length arrows') = le-leb (arrows_before rows n) (length arrows) same.long_arrows ∙ sym (le-leb (arrows_before rows' n) (length arrows') (omega (arith, before_same n (omega arith), same.long_arrows'))) in
-      rw (long, fair_rows, wide, fair_arrows) refl
+      let wide : leb (arrows_before rows n) (length arrows) ≡ leb (arrows_before rows' n) (length arrows') = le-leb (arrows_before rows n) (length arrows) same.long_arrows ∙ sym (le-leb (arrows_before rows' n) (length arrows') (omega (arith, before_same n rows rows' same.row n (omega arith), same.long_arrows'))) in
+      rw (long, rows_same n rows rows' same.row, wide, fair_arrows) refl
 
   module _ (f : Fair n rows arrows) where
     by_row : (read : Row → ℕ) (s : ℕ) → cond (ltb s n) (read (row_at rows s)) 0 ≡ cond (ltb s n) (read (row_at rows' s)) 0
@@ -69,7 +69,8 @@ module _ (n : ℕ) (rows rows' : List Row) (arrows arrows' : List ℕ) (same : S
     made_of : (ℕ → ℕ) → (ℕ → ℕ) → (ℕ → ℕ) → (ℕ → ℕ → ℕ → ℕ) → Arena
     made_of g c e x = record { states = n; grade = g; commands = c; events = e; next = x }
 
-    table_same : table n rows arrows ≡ table n rows' arrows'
+    -- and stand for one site
+    pub table_same : table n rows arrows ≡ table n rows' arrows'
     unfolding made_of
     table_same =
         let m = table n rows arrows in

@@ -9,10 +9,6 @@ module _ {X : Type 0} where
   unfolding laid
   laid_none at ys = refl
 
-  pub laid_cons : (at : ℕ) (x : X) (xs ys : List X) → laid at (x ∷ xs) ys ≡ laid (suc at) xs (set ys at x)
-  unfolding laid
-  laid_cons at x xs ys = refl
-
   -- one entry
   pub laid_one : (at : ℕ) (x : X) (ys : List X) → laid at (x ∷ []) ys ≡ set ys at x
   unfolding laid

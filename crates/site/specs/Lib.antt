@@ -7,3 +7,4 @@ pub mod Laid
 pub mod Refusals
 pub mod TableLaws
 pub mod Tables
+pub mod Trimmed

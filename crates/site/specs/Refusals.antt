@@ -1,5 +1,5 @@
 -- The number and the place of every refusal, and answers told by them.
-use Rattle.std.specs.Prelude.{ℕ, Bool, cond, Ok, Err, Result}
+use Rattle.std.specs.Prelude.{ℕ, Bool, cond, List, ◌++◌, Ok, Err, Result, codes, decimal, nat_lt}
 use Rattle.site.specs.declared.faults.Fault.{Fault}
 use Rattle.site.specs.declared.faults.Fault.TheVariants.{BytesEnd, OtherKind, StateCount, GradeRange, MoveCount, ArrowCount, ArrowRange, SurplusBytes, TooShort, LeafMove, LeafBound, LeavesPart, NoDescent, Blank, NoState, NoMove, OtherPart, WatchRange, WatchFit, DriftRange, TableSize}
 
@@ -59,6 +59,14 @@ pub record Refusal : Type 0 where
 -- the refusal that a fault stands for
 abbrev pub told : Fault → Refusal
 told f = record { number = number_of f; place = place_of f }
+
+-- what a refusal prints as: its number and its place in decimal digits
+abbrev pub refusal_text : Refusal → List ℕ
+refusal_text r = codes "refused " ++ (decimal r.number ++ (codes " at " ++ decimal r.place))
+
+-- a slice of `len` entries where `needed` are due: too short a one is refused by 9 with the entries needed
+abbrev pub long_enough : ℕ → ℕ → Result (Unit {0}) Fault
+long_enough len needed = cond (nat_lt len needed) (Err (TooShort needed)) (Ok tt)
 
 -- an answer, with a fault told as a refusal
 abbrev pub answered : {T : Type 0} → Result T Fault → Result T Refusal

@@ -1,6 +1,9 @@
 // Why a call says no: one case for each refusal, with its number and its place.
-ghost use Rattle.std.specs.Prelude.{◌≡◌};
-ghost use Rattle.site.specs.Refusals.{number_of, place_of};
+ghost use Rattle.std.specs.Prelude.{◌≡◌, ◌≤◌, Some, IfOk};
+ghost use Rattle.site.specs.Refusals.{number_of, place_of, told, refusal_text, long_enough};
+
+use std::error::Error;
+use std::fmt;
 
 // The place is what the case holds, or 0 where it holds nothing.
 #[derive(Clone, Copy, PartialEq, Eq, Debug)]
@@ -101,4 +104,26 @@ impl Fault {
             Fault::StateCount | Fault::Blank | Fault::WatchRange | Fault::DriftRange => 0,
         }
     }
+}
+
+// A refusal is told to the reader by its number and its place.
+impl fmt::Display for Fault {
+    ghost output = { λ fault. Some (refusal_text (told fault)) };
+
+    fn fmt<W: fmt::Write>(&self, f: &mut fmt::Formatter<W>) -> fmt::Result {
+        write!(f, "refused {} at {}", self.number(), self.place())
+    }
+}
+
+impl Error for Fault {}
+
+// Refuses a slice of `len` entries where a call needs more.
+pub fn enough(len: usize, needed: usize) -> Result<(), Fault>
+    ensures answer { result ≡ long_enough len needed }
+    ensures enough { IfOk result (λ _. needed ≤ len) }
+{
+    if len < needed {
+        return Err(Fault::TooShort { needed });
+    }
+    Ok(())
 }

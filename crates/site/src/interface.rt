@@ -5,6 +5,9 @@ ghost use Rattle.site.specs.Grades.{grade_number};
 
 use crate::grades::Grade;
 
+// How many states a site can have.
+pub const MOST_STATES: usize = 8192;
+
 // A site is whatever answers these questions. Its writer gives the meaning, an arena, and shows that
 // the arena keeps every range; no question is refused, and none alters the site.
 pub trait Site {

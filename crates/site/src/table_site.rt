@@ -1,5 +1,5 @@
 // A table answers as a site.
-ghost use Rattle.std.specs.Prelude.{◌≡◌};
+ghost use Rattle.std.specs.Prelude.{◌≡◌, length};
 ghost use Rattle.site.specs.Tables.{table};
 ghost use Rattle.site.specs.TableLaws.{table_lawful};
 
@@ -8,43 +8,30 @@ use crate::interface::Site;
 use crate::tables::Table;
 
 impl<'a> Site for Table<'a> {
-    ghost arena = { λ t. table t.count t.rows.now t.arrows.now };
+    ghost arena = { λ t. table (length t.rows.now) t.rows.now t.arrows.now };
 
-    ghost lawful = { λ t. table_lawful t.count t.rows.now t.arrows.now t.ok };
+    ghost lawful = { λ t. table_lawful (length t.rows.now) t.rows.now t.arrows.now t.ok };
 
     fn states(&self) -> usize {
-        self.count
+        self.rows.len()
     }
 
     fn grade(&self, s: usize) -> Grade {
-        if s < self.count {
-            self.rows[s].grade
-        } else {
-            Grade::Confirmed
-        }
+        self.rows.get(s).map_or(Grade::Confirmed, |row| row.grade)
     }
 
     fn commands(&self, s: usize) -> usize {
-        if s < self.count {
-            self.rows[s].commands as usize
-        } else {
-            0
-        }
+        self.rows.get(s).map_or(0, |row| row.commands as usize)
     }
 
     fn events(&self, s: usize) -> usize {
-        if s < self.count {
-            self.rows[s].events as usize
-        } else {
-            0
-        }
+        self.rows.get(s).map_or(0, |row| row.events as usize)
     }
 
     fn next(&self, s: usize, a: usize, b: usize) -> usize {
-        if s >= self.count {
+        let Some(row) = self.rows.get(s) else {
             return 0;
-        }
-        let row = self.rows[s];
+        };
         let events = row.events as usize;
         if a >= row.commands as usize || b >= events {
             return 0;

@@ -1,17 +1,10 @@
-use Rattle.std.proofs.Common.{rules}
+use Rattle.std.proofs.Common.{refl}
 use Rattle.site.proofs.Beyond.{nothing_beyond}
+use Rattle.site.proofs.Trimmed.{made}
 use Rattle.site.proofs.tables.Table.new.Goals as goal
 
-pub returns-then-not-sheets_fair : goal.returns-then-not-sheets_fair
-returns-then-not-sheets_fair c =
-    record {
-      meaning = search rules;
-      beyond = nothing_beyond c.args.states c.args.rows.now c.args.arrows.now;
-    }
+pub returns-clause-meaning : goal.returns-clause-meaning
+returns-clause-meaning c = made c.args.states c.args.rows.now c.args.arrows.now c.of_fair.result c.unwrap_or.result _ refl c.of_fair.ensures c.unwrap_or.ensures
 
-pub returns : goal.returns
-returns c =
-    record {
-      meaning = search rules;
-      beyond = nothing_beyond c.args.states c.args.rows.now c.args.arrows.now;
-    }
+pub returns-clause-beyond : goal.returns-clause-beyond
+returns-clause-beyond c = nothing_beyond c.args.states c.args.rows.now c.args.arrows.now
