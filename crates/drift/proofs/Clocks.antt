@@ -1,68 +1,27 @@
--- A drifting clock on natural numbers: the offset counted from the lowest one that agrees.
-use Rattle.std.proofs.Common.{◌≡◌, ℕ, zero, suc, ◌+◌, ◌-◌, ◌*◌, ◌/◌, ◌%◌, ◌<◌, ◌≤◌, true, false, eqb, ltb, ℤ, pos, ◌+ℤ◌, ◌-ℤ◌, ◌*ℤ◌, neg_ℤ, nat_abs, sym, refl, ap, ◌∙◌, inl, inr, mod-lt, div-add-mod', arith}
+-- Places and numbers: every number of a drift site is that of one place.
+use Rattle.std.proofs.Common.{◌≡◌, ℕ, ◌+◌, ◌*◌, ◌/◌, ◌<◌, true, eqb, ltb, pos, ◌+ℤ◌, ◌-ℤ◌, neg_ℤ, nat_abs, sym, refl, ap, ◌∙◌, inl, inr, div-add-mod', arith}
 use lib.Arith.{digits_lt, digits_div, digits_mod}
 use lib.Signed.{le_z}
-use Rattle.std.proofs.lemmas.Bool.{and_parts, cases_eq, cases_lt, cond-true, cond-false, lt-ltb, le-ltb, eq-eqb, ne_eqb, and_from, and_left, and_right}
+use Rattle.std.proofs.lemmas.Bool.{and_parts, cases_eq, cases_lt, cond-true, cond-false, lt-ltb, le-ltb, eq-eqb, ne_eqb}
 use Rattle.std.proofs.lemmas.Int.{ints}
-use Rattle.drift.specs.Drifts.{farthest, offsets, Place, offset, apart, confirmed, place_grade, place_number, numbered, agrees, arrived, drifted, moved, drift_states, Kept, ByPlaces}
+use Rattle.drift.specs.declared.places.Place.{Place}
+use Rattle.drift.specs.declared.places.Place.TheVariants.{Offset, Apart, Confirmed}
+use Rattle.drift.specs.Drifts.{farthest, offsets, place_grade, place_number, numbered, moved, drift_states, Kept, ByPlaces}
 use Rattle.drift.specs.DriftLaws.{offset_low, kept_below, kept_numbered, own_move}
-
--- the clock moved by a step back, none or one on
-shift_is : (t d : ℕ) (o : ℤ) → t < 3 → o +ℤ (pos t -ℤ pos 1) *ℤ pos d +ℤ pos d ≡ o +ℤ pos (t * d)
-shift_is zero d o lt = omega (arith, ints)
-shift_is (suc zero) d o lt = omega (arith, ints)
-shift_is (suc (suc zero)) d o lt = omega (arith, ints)
-shift_is (suc (suc (suc t))) d o lt = absurd (omega arith)
-
-module _ (d k b up l : ℕ) where
-  aim : ℤ
-  aim = drifted d b (pos up -ℤ pos farthest)
-
-  aim_is : aim +ℤ pos d +ℤ pos farthest ≡ pos (up + b % 3 * d)
-  unfolding aim
-  aim_is =
-      let e = shift_is (b % 3) d (pos up -ℤ pos farthest) (mod-lt b (omega arith)) in
-      omega (arith, ints)
-
-  -- the clock stays within reach
-  pub arrived_near : d ≤ up + b % 3 * d → up + b % 3 * d - d ≤ 2 * farthest → place_number k (arrived (drifted d b (pos up -ℤ pos farthest)) l) ≡ (up + b % 3 * d - d) * (k + 1) + l
-  unfolding aim
-  arrived_near low high =
-      let e = aim_is in
-      let from : true ≡ le_z (neg_ℤ (pos farthest)) aim = omega (arith, ints) in
-      let to : true ≡ le_z aim (pos farthest) = omega (arith, ints) in
-      let here : nat_abs (aim +ℤ pos farthest) ≡ up + b % 3 * d - d = omega (arith, ints) in
-      ap (place_number k) (cond-true (agrees aim) _ _ (and_from _ _ (sym from) (sym to))) ∙ ap (λ h. h * (k + 1) + l) here
-
-  -- it falls below the lowest offset that agrees
-  pub arrived_below : up + b % 3 * d < d → place_number k (arrived (drifted d b (pos up -ℤ pos farthest)) l) ≡ offsets * (k + 1)
-  unfolding aim
-  arrived_below low =
-      let e = aim_is in
-      let from : false ≡ le_z (neg_ℤ (pos farthest)) aim = omega (arith, ints) in
-      ap (place_number k) (cond-false (agrees aim) _ _ (and_left _ _ (sym from)))
-
-  -- it rises above the highest
-  pub arrived_above : 2 * farthest < up + b % 3 * d - d → place_number k (arrived (drifted d b (pos up -ℤ pos farthest)) l) ≡ offsets * (k + 1)
-  unfolding aim
-  arrived_above high =
-      let e = aim_is in
-      let to : false ≡ le_z aim (pos farthest) = omega (arith, ints) in
-      ap (place_number k) (cond-false (agrees aim) _ _ (and_right _ _ (sym to)))
 
 module _ (d k : ℕ) where
   -- every place of the site has a number of its own
   numbered_place : (p : Place) → Kept k p → numbered k (place_number k p) ≡ p
-  numbered_place (offset o l) h =
+  numbered_place (Offset o l) h =
       let high = nat_abs (o +ℤ pos farthest) in
       let few : l < k + 1 = omega (arith, h.1) in
       let before : high * (k + 1) + l < offsets * (k + 1) = digits_lt (offset_low o h.0) few in
       let from : le_z (neg_ℤ (pos farthest)) o ≡ true = (and_parts (le_z (neg_ℤ (pos farthest)) o) (le_z o (pos farthest)) h.0).0 in
       let back : pos high -ℤ pos farthest ≡ o = omega (arith, ints) in
       cond-true (ltb (high * (k + 1) + l) (offsets * (k + 1))) _ _ (lt-ltb _ _ before) ∙ rw (digits_div high few, digits_mod high few, back) refl
-  numbered_place apart h =
+  numbered_place Apart h =
       cond-false (ltb (offsets * (k + 1)) (offsets * (k + 1))) _ _ (le-ltb _ _ (omega arith)) ∙ cond-true (eqb (offsets * (k + 1)) (offsets * (k + 1))) _ _ (eq-eqb _ _ refl)
-  numbered_place confirmed h =
+  numbered_place Confirmed h =
       cond-false (ltb (offsets * (k + 1) + 1) (offsets * (k + 1))) _ _ (le-ltb _ _ (omega arith)) ∙ cond-false (eqb (offsets * (k + 1) + 1) (offsets * (k + 1))) _ _ (ne_eqb _ _ (λ e. omega arith))
 
   -- and every number is that of its place
@@ -74,8 +33,8 @@ module _ (d k : ℕ) where
             let back : nat_abs (pos q -ℤ pos farthest +ℤ pos farthest) ≡ q = omega (arith, ints) in
             ap (place_number k) (cond-true (ltb s (offsets * (k + 1))) _ _ (lt-ltb _ _ before)) ∙ rw back (div-add-mod' s (k + 1))
         | inr past ↦ ap (place_number k) (cond-false (ltb s (offsets * (k + 1))) _ _ (le-ltb _ _ past)) ∙ elim (cases_eq s (offsets * (k + 1))) [
-          | inl e ↦ ap (place_number k) (cond-true (eqb s (offsets * (k + 1))) apart confirmed (eq-eqb _ _ e)) ∙ sym e
-          | inr ne ↦ ap (place_number k) (cond-false (eqb s (offsets * (k + 1))) apart confirmed (ne_eqb _ _ ne)) ∙ omega arith
+          | inl e ↦ ap (place_number k) (cond-true (eqb s (offsets * (k + 1))) Apart Confirmed (eq-eqb _ _ e)) ∙ sym e
+          | inr ne ↦ ap (place_number k) (cond-false (eqb s (offsets * (k + 1))) Apart Confirmed (ne_eqb _ _ ne)) ∙ omega arith
         ]
       ]
 

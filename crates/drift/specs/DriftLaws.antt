@@ -4,7 +4,9 @@ use Rattle.std.proofs.Common.{mul-le-mul_right, mod-lt, div-lt_iff_lt-mul, arith
 use Rattle.std.proofs.lemmas.Bool.{and_parts, leb-true, ltb-true, cond-true, cond-false, cond_both, lt-ltb, le-ltb, cases_lt, and_from, and_left, and_right}
 use Rattle.std.proofs.lemmas.Int.{ints}
 use Rattle.site.specs.Arena.{Lawful}
-use Rattle.drift.specs.Drifts.{farthest, offsets, drift_range, Place, offset, apart, confirmed, place_grade, place_number, numbered, agrees, arrived, drifted, lost, commanded, moved, drift_states, drift, Kept}
+use Rattle.drift.specs.declared.places.Place.{Place}
+use Rattle.drift.specs.declared.places.Place.TheVariants.{Offset, Apart, Confirmed}
+use Rattle.drift.specs.Drifts.{farthest, offsets, drift_range, place_grade, place_number, numbered, agrees, arrived, drifted, lost, commanded, moved, drift_states, drift, Kept}
 use Rattle.site.specs.TableLaws.{cond_past, cond_within}
 
 -- what a setting in range is
@@ -24,27 +26,27 @@ offset_low o h =
 
 module _ (d k : ℕ) where
   pub kept_below : (p : Place) → Kept k p → place_number k p < drift_states k
-  kept_below (offset o l) h =
+  kept_below (Offset o l) h =
       let low : suc (unsigned_abs (o +ℤ pos farthest)) * (k + 1) ≤ offsets * (k + 1) = mul-le-mul_right (k + 1) (offset_low o h.0) in
       omega arith
-  kept_below apart h = omega arith
-  kept_below confirmed h = omega arith
+  kept_below Apart h = omega arith
+  kept_below Confirmed h = omega arith
 
   kept_arrived : (o : ℤ) (l : ℕ) → l ≤ k → Kept k (arrived o l)
-  kept_arrived o l le = cond_both (agrees o) (offset o l) apart (Kept k) (λ e. (e, le)) (λ _. tt)
+  kept_arrived o l le = cond_both (agrees o) (Offset o l) Apart (Kept k) (λ e. (e, le)) (λ _. tt)
 
   kept_commanded : (a b : ℕ) (o : ℤ) (l : ℕ) → l ≤ k → Kept k (commanded d k a b o l)
   kept_commanded zero b o l le = kept_arrived (drifted d b o) l le
   kept_commanded (suc a) b o l le =
-      cond_both (lost k b l) (arrived (drifted d b o) (l + 1)) confirmed (Kept k) (λ e. kept_arrived (drifted d b o) (l + 1) (omega (arith, ltb-true l k (and_parts _ _ e).1))) (λ _. tt)
+      cond_both (lost k b l) (arrived (drifted d b o) (l + 1)) Confirmed (Kept k) (λ e. kept_arrived (drifted d b o) (l + 1) (omega (arith, ltb-true l k (and_parts _ _ e).1))) (λ _. tt)
 
   -- a move from a place of the site leads to a place of the site
   pub kept_moved : (a b : ℕ) (p : Place) → Kept k p → Kept k (moved d k a b p)
-  kept_moved a b (offset o l) h = kept_commanded a b o l h.1
-  kept_moved a b apart h = tt
-  kept_moved a b confirmed h = kept_commanded a b (pos 0) 0 (omega arith)
+  kept_moved a b (Offset o l) h = kept_commanded a b o l h.1
+  kept_moved a b Apart h = tt
+  kept_moved a b Confirmed h = kept_commanded a b (pos 0) 0 (omega arith)
 
-  kept_offset : (h l : ℕ) → h < offsets → l ≤ k → Kept k (offset (pos h -ℤ pos farthest) l)
+  kept_offset : (h l : ℕ) → h < offsets → l ≤ k → Kept k (Offset (pos h -ℤ pos farthest) l)
   kept_offset h l lt le =
       let low : true ≡ int_le (neg_ℤ (pos farthest)) (pos h -ℤ pos farthest) = omega (arith, ints) in
       let high : true ≡ int_le (pos h -ℤ pos farthest) (pos farthest) = omega (arith, ints) in
@@ -53,13 +55,13 @@ module _ (d k : ℕ) where
   -- every number stands for a place of the site
   pub kept_numbered : (s : ℕ) → Kept k (numbered k s)
   kept_numbered s =
-      cond_both (nat_lt s (offsets * (k + 1))) _ _ (Kept k) (λ e. kept_offset (s / (k + 1)) (s % (k + 1)) ((div-lt_iff_lt-mul (omega arith)).1 (ltb-true s (offsets * (k + 1)) e)) (omega (arith, mod-lt s {m = k + 1} (omega arith)))) (λ _. cond_both (s == offsets * (k + 1)) apart confirmed (Kept k) (λ _. tt) (λ _. tt))
+      cond_both (nat_lt s (offsets * (k + 1))) _ _ (Kept k) (λ e. kept_offset (s / (k + 1)) (s % (k + 1)) ((div-lt_iff_lt-mul (omega arith)).1 (ltb-true s (offsets * (k + 1)) e)) (omega (arith, mod-lt s {m = k + 1} (omega arith)))) (λ _. cond_both (s == offsets * (k + 1)) Apart Confirmed (Kept k) (λ _. tt) (λ _. tt))
 
   -- the grades of places are among the three
   place_grade_few : (p : Place) → place_grade p ≤ 2
-  place_grade_few (offset o l) = omega arith
-  place_grade_few apart = omega arith
-  place_grade_few confirmed = omega arith
+  place_grade_few (Offset o l) = omega arith
+  place_grade_few Apart = omega arith
+  place_grade_few Confirmed = omega arith
 
   -- a move that every state has
   pub own_move : (s a b : ℕ) → s < drift_states k → a < 2 → b < 6 → (drift d k).next s a b ≡ place_number k (moved d k a b (numbered k s))

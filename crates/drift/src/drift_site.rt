@@ -1,14 +1,19 @@
 // A drift site answers as a site.
-ghost use Rattle.std.specs.Prelude.{◌≡◌, ◌+◌, ◌*◌, ◌<◌, ◌≤◌, pos, ◌-ℤ◌};
-ghost use Rattle.drift.specs.Drifts.{farthest, offsets, drift, place_number, arrived as arriving, drifted, commanded};
+ghost use Rattle.std.specs.Prelude.{◌≡◌, ◌+◌, ◌*◌, true};
+ghost use Rattle.drift.specs.Drifts.{offsets, drift, place_number, numbered, agrees, arrived as arriving, drifted, commanded, moved, Kept};
 ghost use Rattle.drift.specs.DriftLaws.{drift_lawful};
+ghost use Rattle.drift.specs.declared.places.Place.TheVariants.{Offset};
 
 use crate::drifts::Drift;
+use crate::places::Place;
 use site::grades::Grade;
 use site::interface::Site;
 
 // The farthest offset that still agrees, in quarters of a second.
-const FARTHEST: usize = 8;
+const FARTHEST: i64 = 8;
+
+// How many offsets agree.
+const OFFSETS: usize = 17;
 
 const COMMANDS: usize = 2;
 
@@ -19,39 +24,96 @@ const EVENTS: usize = 6;
 
 const MOVES: usize = 3;
 
-// Offsets are counted from the lowest one that agrees, so that none is below 0.
+// The place of a clock at an offset, which is apart where the offset does not agree.
+fn arrived(offset: i64, lost: usize) -> Place
+    ensures { result ≡ arriving offset lost }
+{
+    if (-FARTHEST..=FARTHEST).contains(&offset) {
+        Place::Offset { offset, lost }
+    } else {
+        Place::Apart
+    }
+}
+
 impl Drift {
     // The number of the state that is apart; those before it have an offset.
     fn apart(&self) -> usize
         ensures { result ≡ offsets * (self.now.losses + 1) }
     {
-        (2 * FARTHEST + 1) * (self.losses + 1)
+        OFFSETS * (self.losses + 1)
     }
 
-    // The state that the clock comes to from an offset, by event `b`.
-    fn arrived(&self, offset: usize, lost: usize, b: usize) -> usize
-        requires { (offset < offsets) × (lost ≤ self.now.losses) }
-        ensures { result ≡ place_number self.now.losses (arriving (drifted self.now.step b (pos offset -ℤ pos farthest)) lost) }
+    // The place that has the number `s`.
+    fn place(&self, s: usize) -> Place
+        ensures place { result ≡ numbered self.now.losses s }
+        ensures kept { Kept self.now.losses result }
     {
-        let ahead = offset + b % MOVES * self.step;
-        if ahead < self.step || ahead - self.step > 2 * FARTHEST {
-            return self.apart();
+        let apart = self.apart();
+        if s < apart {
+            let width = self.losses + 1;
+            Place::Offset {
+                offset: (s / width) as i64 - FARTHEST,
+                lost: s % width,
+            }
+        } else if s == apart {
+            Place::Apart
+        } else {
+            Place::Confirmed
         }
-        (ahead - self.step) * (self.losses + 1) + lost
     }
 
-    // The state that command `a` and event `b` lead to from an offset.
-    fn commanded(&self, offset: usize, lost: usize, a: usize, b: usize) -> usize
-        requires { (offset < offsets) × (lost ≤ self.now.losses) }
-        ensures { result ≡ place_number self.now.losses (commanded self.now.step self.now.losses a b (pos offset -ℤ pos farthest) lost) }
+    // The number of a place.
+    fn number(&self, place: Place) -> usize
+        requires { Kept self.now.losses place }
+        ensures { result ≡ place_number self.now.losses place }
     {
+        match place {
+            Place::Offset { offset, lost } => {
+                (offset + FARTHEST) as usize * (self.losses + 1) + lost
+            }
+            Place::Apart => self.apart(),
+            Place::Confirmed => self.apart() + 1,
+        }
+    }
+
+    // The offset to which event `b` moves the clock: by a step back, not at all, or by a step on.
+    fn drifted(&self, offset: i64, b: usize) -> i64
+        requires { agrees offset ≡ true }
+        ensures { result ≡ drifted self.now.step b offset }
+    {
+        match b % MOVES {
+            0 => offset - self.step as i64,
+            1 => offset,
+            _ => offset + self.step as i64,
+        }
+    }
+
+    // The place that command `a` and event `b` lead to from an offset.
+    fn commanded(&self, offset: i64, lost: usize, a: usize, b: usize) -> Place
+        requires { Kept self.now.losses (Offset offset lost) }
+        ensures { result ≡ commanded self.now.step self.now.losses a b offset lost }
+    {
+        let offset = self.drifted(offset, b);
         if a == WAIT {
-            return self.arrived(offset, lost, b);
+            return arrived(offset, lost);
         }
         if b >= MOVES && lost < self.losses {
-            return self.arrived(offset, lost + 1, b);
+            return arrived(offset, lost + 1);
         }
-        self.apart() + 1
+        Place::Confirmed
+    }
+
+    // The place that command `a` and event `b` lead to.
+    fn moved(&self, place: Place, a: usize, b: usize) -> Place
+        requires { Kept self.now.losses place }
+        ensures place { result ≡ moved self.now.step self.now.losses a b place }
+        ensures kept { Kept self.now.losses result }
+    {
+        match place {
+            Place::Offset { offset, lost } => self.commanded(offset, lost, a, b),
+            Place::Apart => Place::Apart,
+            Place::Confirmed => self.commanded(0, 0, a, b),
+        }
     }
 }
 
@@ -65,13 +127,13 @@ impl Site for Drift {
     }
 
     fn grade(&self, s: usize) -> Grade {
-        let apart = self.apart();
-        if s < apart {
-            Grade::Ordinary
-        } else if s == apart {
-            Grade::Doubted
-        } else {
-            Grade::Confirmed
+        if s >= self.states() {
+            return Grade::Confirmed;
+        }
+        match self.place(s) {
+            Place::Offset { .. } => Grade::Ordinary,
+            Place::Apart => Grade::Doubted,
+            Place::Confirmed => Grade::Confirmed,
         }
     }
 
@@ -87,14 +149,6 @@ impl Site for Drift {
         if s >= self.states() || a >= COMMANDS || b >= EVENTS {
             return 0;
         }
-        let apart = self.apart();
-        if s < apart {
-            let width = self.losses + 1;
-            return self.commanded(s / width, s % width, a, b);
-        }
-        if s == apart {
-            return apart;
-        }
-        self.commanded(FARTHEST, 0, a, b)
+        self.number(self.moved(self.place(s), a, b))
     }
 }

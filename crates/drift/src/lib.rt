@@ -4,3 +4,4 @@
 pub mod drift_site;
 pub mod drifting;
 pub mod drifts;
+pub mod places;
