@@ -7,9 +7,7 @@ ghost use Rattle.watch.specs.Watched.{fitted, worn as wearing, watched};
 
 use crate::watches::Watch;
 use site::faults::Fault;
-use site::interface::Site;
-
-const MOST_STATES: usize = 8192;
+use site::interface::{MOST_STATES, Site};
 
 // A site with a watch above it, which is a site again and may carry another watch.
 #[derive(Drop)]

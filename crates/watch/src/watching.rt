@@ -1,15 +1,29 @@
 // Making and setting a watch.
-ghost use Rattle.std.specs.Prelude.{◌≡◌, not, if◌then◌else◌, Ok};
+ghost use Rattle.std.specs.Prelude.{◌≡◌, not, nat_le, nat_lt, if◌then◌else◌, Ok};
+ghost use Rattle.std.specs.List.{list_all};
 ghost use Rattle.watch.specs.Dials.{dial};
 ghost use Rattle.site.specs.Refusals.{answered, unless};
 ghost use Rattle.watch.specs.Watches.{watch_range, entries, clear};
 
 use crate::watches::Watch;
 use site::faults::Fault;
+use site::grades::Grade;
 
 const MOST_POSITIONS: usize = 8;
 
-const MOST_GRADE: u8 = 2;
+// Whether each of these turns leads to one of the positions.
+fn turns_fair(positions: usize, turns: &[u8]) -> bool
+    ensures { result ≡ list_all (λ turn. nat_lt turn positions) turns.now }
+{
+    turns.iter().all(|turn| (*turn as usize) < positions)
+}
+
+// Whether each of these numbers to be shown is a grade's.
+fn shows_fair(shows: &[u8]) -> bool
+    ensures { result ≡ list_all (λ show. nat_le show 2) shows.now }
+{
+    shows.iter().all(|show| Grade::try_from(*show).is_ok())
+}
 
 // Whether a watch of these entries is in range.
 fn in_range(positions: usize, turns: &[u8; 24], shows: &[u8; 24]) -> bool
@@ -18,14 +32,8 @@ fn in_range(positions: usize, turns: &[u8; 24], shows: &[u8; 24]) -> bool
     if positions < 1 || positions > MOST_POSITIONS {
         return false;
     }
-    for i in 0..3 * positions {
-        let turn = turns[i] as usize;
-        let show = shows[i];
-        if turn >= positions || show > MOST_GRADE {
-            return false;
-        }
-    }
-    true
+    let own = 3 * positions;
+    turns_fair(positions, &turns[..own]) && shows_fair(&shows[..own])
 }
 
 impl Watch {
