@@ -6,7 +6,7 @@ use Rattle.site.specs.Refusals.{Refusal, refuse}
 use Rattle.checker.specs.declared.leaves.Leaf.{Leaf}
 use Rattle.checker.specs.Leaves.{reply_at}
 use Rattle.checker.specs.Checked.{passed, in_turn, event_tested, reply_tested, command_tested, covered_tested, open_tested}
-use Rattle.checker.proofs.Turns.{turn_refused, turn_end}
+use Rattle.checker.proofs.Turns.{turn_refused}
 
 module _ (m : Arena) (leaves : List Leaf) (s a r : ℕ) where
   -- a command of the state and a rank within its bound leave the events to test
@@ -17,11 +17,6 @@ module _ (m : Arena) (leaves : List Leaf) (s a r : ℕ) where
   pub covered_refused : a < m.commands s → r ≤ graded m 1 → (b : ℕ) (e : Refusal) → b < m.events s → in_turn (event_tested m leaves s a r) b ≡ passed → event_tested m leaves s a r b ≡ Err e → Err e ≡ covered_tested m leaves s a r
   covered_refused own bound b e l before here =
       sym (covered_rest own bound ∙ turn_refused (event_tested m leaves s a r) (m.events s) b e l before here)
-
-  -- passed at every event
-  pub covered_passed : a < m.commands s → r ≤ graded m 1 → (b : ℕ) → b ≤ m.events s → m.events s ≤ b → in_turn (event_tested m leaves s a r) b ≡ passed → passed ≡ covered_tested m leaves s a r
-  covered_passed own bound b l all before =
-      sym (covered_rest own bound ∙ turn_end (event_tested m leaves s a r) b (m.events s) before l all)
 
 module _ (m : Arena) (leaves : List Leaf) (replies : List ℕ) (s u w : ℕ) where
   -- a reply that is no event of the state
@@ -40,8 +35,3 @@ module _ (m : Arena) (leaves : List Leaf) (replies : List ℕ) (s u w : ℕ) whe
   pub open_refused : u ≤ graded m 0 → w ≤ graded m 2 → (a : ℕ) (e : Refusal) → a < m.commands s → in_turn (command_tested m leaves replies s u w) a ≡ passed → command_tested m leaves replies s u w a ≡ Err e → Err e ≡ open_tested m leaves replies s u w
   open_refused first second a e l before here =
       sym (open_rest first second ∙ turn_refused (command_tested m leaves replies s u w) (m.commands s) a e l before here)
-
-  -- passed at every command
-  pub open_passed : u ≤ graded m 0 → w ≤ graded m 2 → (a : ℕ) → a ≤ m.commands s → m.commands s ≤ a → in_turn (command_tested m leaves replies s u w) a ≡ passed → passed ≡ open_tested m leaves replies s u w
-  open_passed first second a l all before =
-      sym (open_rest first second ∙ turn_end (command_tested m leaves replies s u w) a (m.commands s) before l all)

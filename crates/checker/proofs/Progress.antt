@@ -1,13 +1,12 @@
 -- How far the check has come: the states done have passed and are counted.
-use Rattle.std.proofs.Common.{◌≡◌, ℕ, ◌+◌, ◌-◌, ◌*◌, ◌<◌, ◌≤◌, true, false, not, List, length, get_or, take, Ok, Err, sym, refl, ◌∙◌, arith}
-use Rattle.std.proofs.lemmas.List.{get_or-take, length-take}
+use Rattle.std.proofs.Common.{◌≡◌, ℕ, ◌+◌, ◌*◌, ◌<◌, ◌≤◌, Bool, true, false, not, nat_lt, List, length, Ok, Err, Result, sym, refl, ap, ◌∙◌, arith}
 use Rattle.std.proofs.lemmas.Bool.{le-ltb}
 use Rattle.site.specs.Arena.{Arena}
 use Rattle.site.specs.Counting.{count}
-use Rattle.site.specs.Refusals.{Refusal, and_then}
+use Rattle.site.specs.Refusals.{Refusal, unless, and_then}
 use Rattle.checker.specs.declared.leaves.Leaf.{Leaf}
 use Rattle.checker.specs.declared.leaves.Counts.{Counts}
-use Rattle.checker.specs.Leaves.{leaf_at, is_covered}
+use Rattle.checker.specs.Leaves.{leaf_at, is_covered, lending}
 use Rattle.checker.specs.Checked.{in_turn, leaf_tested, state_tested, passed, counts, checked}
 use Rattle.checker.proofs.Tallies.{tally_hit, tally_miss, tally_end}
 use Rattle.checker.proofs.Turns.{turn_passed, turn_refused, turn_end}
@@ -19,12 +18,14 @@ pub record Progress (m : Arena) (leaves : List Leaf) (replies : List ℕ) (s : �
   pub few_covered : c.covered ≤ s
   pub few_uncovered : c.«open» ≤ s
 
--- an element of the first n of a list is one of the list
-pub front_below : {X : Type 0} (n : ℕ) (xs : List X) (i : ℕ) → i < length (take (n - 0) xs) → i < n
-front_below n xs i l = omega (arith, length-take (n - 0) xs)
-
-pub front_at : {X : Type 0} (n : ℕ) (xs : List X) (i : ℕ) (d : X) → i < length (take (n - 0) xs) → get_or xs i d ≡ get_or (take (n - 0) xs) i d
-front_at n xs i d l = sym (get_or-take (n - 0) xs i d (omega (arith, length-take (n - 0) xs)))
+-- leaves and replies that are too few
+pub too_few : (m : Arena) (leaves : List Leaf) (replies : List ℕ) (e : Refusal) → lending m.states leaves replies ≡ Err e → checked m leaves replies ≡ Err e
+too_few m leaves replies e h = first (nat_lt (length leaves) m.states) (nat_lt (length replies) (16 * m.states)) _ ∙ ap (λ r. and_then r (λ _. and_then (in_turn (state_tested m leaves replies) m.states) (λ _. Ok (counts m leaves)))) h
+  where
+    first : (b b' : Bool) (rest : Result Counts Refusal) → unless b 9 m.states (unless b' 9 (16 * m.states) rest) ≡ and_then (unless b 9 m.states (unless b' 9 (16 * m.states) passed)) (λ _. rest)
+    first true b' rest = refl
+    first false true rest = refl
+    first false false rest = refl
 
 module _ (m : Arena) (leaves : List Leaf) (replies : List ℕ) (s : ℕ) (c : Counts) (p : Progress m leaves replies s c) where
   -- one more covered state

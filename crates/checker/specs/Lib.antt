@@ -1,4 +1,5 @@
 pub mod Bounded
+pub mod Calls
 pub mod Checked
 pub mod Leaves
 pub mod Played

@@ -5,9 +5,8 @@ ghost use Rattle.checker.specs.Witness.{Accepted};
 ghost use Rattle.checker.specs.Checked.{checked};
 ghost use Rattle.checker.specs.RunLaws.{RunLaw, SameCover};
 
-use crate::bounding::bounds_of;
-use crate::leaves::{Counts, Leaf, PLACES};
-use crate::rules::keeps_rule;
+use crate::leaves::{Counts, Leaf};
+use crate::rules::Check;
 use site::faults::Fault;
 use site::interface::Site;
 
@@ -20,20 +19,10 @@ pub fn check<S: Site>(site: &S, leaves: &[Leaf], replies: &[u8]) -> Result<Count
     ensures runs { RunLaw (S.Site.arena site.now) }
     ensures cover { SameCover (S.Site.arena site.now) }
 {
-    let n = site.states();
-    if leaves.len() < n {
-        return Err(Fault::TooShort { needed: n });
-    }
-    if replies.len() < PLACES * n {
-        return Err(Fault::TooShort { needed: PLACES * n });
-    }
-    let bounds = bounds_of(site, n);
-    let mut counts = Counts {
-        covered: 0,
-        open: 0,
-    };
-    for (s, leaf) in leaves[0..n].iter().enumerate() {
-        keeps_rule(site, leaves, replies, s, *leaf, bounds)?;
+    let check = Check::lent(site, leaves, replies)?;
+    let mut counts = Counts::default();
+    for (s, leaf) in leaves[..site.states()].iter().enumerate() {
+        check.keeps_rule(s, *leaf)?;
         match leaf {
             Leaf::Covered { .. } => counts.covered += 1,
             Leaf::Open { .. } => counts.open += 1,

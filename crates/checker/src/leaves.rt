@@ -16,7 +16,7 @@ pub enum Leaf {
 pub const PLACES: usize = 16;
 
 // How many states are covered and how many are open.
-#[derive(Clone, Copy, PartialEq, Eq, Debug)]
+#[derive(Clone, Copy, PartialEq, Eq, Debug, Default)]
 pub struct Counts {
     pub covered: usize,
     pub open: usize,

@@ -10,7 +10,7 @@ ghost use Rattle.checker.specs.Witness.{Accepted};
 use crate::calls::Call;
 use crate::leaves::Leaf;
 use crate::runs::Run;
-use site::faults::Fault;
+use site::faults::{Fault, enough};
 use site::interface::Site;
 
 impl Run {
@@ -48,12 +48,9 @@ pub fn play<S: Site>(
     ensures refused { length answers.old < length calls.now → answers.new ≡ answers.old }
     ensures law { Accepted (S.Site.arena site.now) leaves.now replies.now → (k : ℕ) → Kept (S.Site.arena site.now) leaves.now replies.now (take k calls.now) }
 {
-    if answers.len() < calls.len() {
-        return Err(Fault::TooShort {
-            needed: calls.len(),
-        });
-    }
+    enough(answers.len(), calls.len())?;
     let mut run = Run::Blank;
+    // of a `zip` with `iter_mut` a proof knows no entry that was written, so the answer is found by the call's index
     for (i, call) in calls.iter().enumerate() {
         answers[i] = run.make(site, leaves, replies, *call);
     }

@@ -1,11 +1,12 @@
 // Placing a run, and its two rounds: by the book against an event, by the objection against a command.
 ghost use Rattle.std.specs.Prelude.{◌≡◌};
 ghost use Rattle.site.specs.Refusals.{answered};
-ghost use Rattle.checker.specs.Rounds.{state_of, placing, book_round, objection_round, after_placing, after_round, moved};
+ghost use Rattle.checker.specs.Rounds.{state_of, standing, placing, book_round, objection_round, after_placing, after_round, moved};
 
-use crate::leaves::{Leaf, PLACES, consult};
+use crate::leaves::{Leaf, consult};
+use crate::pairs::Pair;
 use crate::runs::Run;
-use site::faults::Fault;
+use site::faults::{Fault, enough};
 use site::interface::Site;
 
 impl Run {
@@ -25,6 +26,19 @@ impl Run {
         };
         self.count(site.grade(s));
         Ok(s)
+    }
+
+    // The state that a round starts from.
+    fn standing<S: Site>(&self, site: &S) -> Result<usize, Fault>
+        ensures { answered result ≡ standing (S.Site.arena site.now) (state_of self.now) }
+    {
+        let Run::Placed { state, .. } = *self else {
+            return Err(Fault::Blank);
+        };
+        if state >= site.states() {
+            return Err(Fault::NoState { state });
+        }
+        Ok(state)
     }
 
     // The run goes on to the state `t`, which is counted.
@@ -47,16 +61,8 @@ impl Run {
         ensures outcome { answered result ≡ book_round (S.Site.arena site.now) leaves.now (state_of self.old) event }
         ensures after { self.new ≡ after_round (S.Site.arena site.now) (book_round (S.Site.arena site.now) leaves.now (state_of self.old) event) self.old }
     {
-        let n = site.states();
-        if leaves.len() < n {
-            return Err(Fault::TooShort { needed: n });
-        }
-        let Run::Placed { state, .. } = *self else {
-            return Err(Fault::Blank);
-        };
-        if state >= n {
-            return Err(Fault::NoState { state });
-        }
+        enough(leaves.len(), site.states())?;
+        let state = self.standing(site)?;
         let Some(command) = consult(leaves, state) else {
             return Err(Fault::OtherPart { state });
         };
@@ -83,26 +89,15 @@ impl Run {
         ensures outcome { answered result ≡ objection_round (S.Site.arena site.now) leaves.now replies.now (state_of self.old) command }
         ensures after { self.new ≡ after_round (S.Site.arena site.now) (objection_round (S.Site.arena site.now) leaves.now replies.now (state_of self.old) command) self.old }
     {
-        let n = site.states();
-        if leaves.len() < n {
-            return Err(Fault::TooShort { needed: n });
-        }
-        if replies.len() < PLACES * n {
-            return Err(Fault::TooShort { needed: PLACES * n });
-        }
-        let Run::Placed { state, .. } = *self else {
-            return Err(Fault::Blank);
-        };
-        if state >= n {
-            return Err(Fault::NoState { state });
-        }
+        let pair = Pair::lent(site, leaves, replies)?;
+        let state = self.standing(site)?;
         let Leaf::Open { .. } = leaves[state] else {
             return Err(Fault::OtherPart { state });
         };
         if command >= site.commands(state) {
             return Err(Fault::NoMove { number: command });
         }
-        let reply = replies[PLACES * state + command] as usize;
+        let reply = pair.reply(state, command);
         if reply >= site.events(state) {
             return Err(Fault::LeafMove { state });
         }

@@ -1,96 +1,88 @@
 // The rule of one leaf at its state, tested arrow by arrow.
-ghost use Rattle.std.specs.Prelude.{◌≡◌, ◌*◌, ◌<◌, ◌≤◌, length};
-ghost use Rattle.site.specs.Refusals.{answered};
+ghost use Rattle.std.specs.Prelude.{◌≡◌, ◌<◌, Err, MatchResult};
+ghost use Rattle.site.specs.Refusals.{told, answered};
 ghost use Rattle.checker.specs.Checked.{covered_tested, open_tested, leaf_tested};
 ghost use Rattle.checker.specs.Bounded.{Bounded};
+ghost use Rattle.checker.specs.Leaves.{lending};
 
-use crate::bounding::Bounds;
-use crate::leaves::{Leaf, PLACES};
-use crate::steps::{covered_step, open_step};
+use crate::arrows::{covered_arrow, open_arrow};
+use crate::bounding::{Bounds, bounds_of};
+use crate::leaves::Leaf;
+use crate::pairs::Pair;
 use site::faults::Fault;
 use site::interface::Site;
 
-// The covered leaf of state `s`: one command against every event.
-fn covered_leaf<S: Site>(
-    site: &S,
-    leaves: &[Leaf],
-    s: usize,
-    command: u8,
-    rank: u16,
+// A pair that is tested, with the bounds of its numbers.
+#[derive(Drop)]
+pub(crate) struct Check<'a, S: Site> {
+    pair: Pair<'a, S>,
     bounds: Bounds,
-) -> Result<(), Fault>
-    requires leaves { (S.Site.arena site.now).states ≤ length leaves.now }
-    requires bounds { Bounded (S.Site.arena site.now) bounds }
-    ensures { answered result ≡ covered_tested (S.Site.arena site.now) leaves.now s command rank }
-{
-    let a = command as usize;
-    if a >= site.commands(s) {
-        return Err(Fault::LeafMove { state: s });
-    }
-    if rank as usize > bounds.doubted {
-        return Err(Fault::LeafBound { state: s });
-    }
-    let grade = site.grade(s);
-    for b in 0..site.events(s) {
-        covered_step(site, leaves, s, grade, rank, a, b)?;
-    }
-    Ok(())
+    ghost bounded: { Bounded (S.Site.arena pair.site.now) bounds },
 }
 
-// The open leaf of state `s`, with its two numbers: every command against the one event of its reply.
-fn open_leaf<S: Site>(
-    site: &S,
-    leaves: &[Leaf],
-    replies: &[u8],
-    s: usize,
-    here: (u16, u16),
-    bounds: Bounds,
-) -> Result<(), Fault>
-    requires state { s < (S.Site.arena site.now).states }
-    requires leaves { (S.Site.arena site.now).states ≤ length leaves.now }
-    requires replies { 16 * (S.Site.arena site.now).states ≤ length replies.now }
-    requires bounds { Bounded (S.Site.arena site.now) bounds }
-    ensures { answered result ≡ open_tested (S.Site.arena site.now) leaves.now replies.now s here.0 here.1 }
-{
-    if here.0 as usize > bounds.confirmed || here.1 as usize > bounds.ordinary {
-        return Err(Fault::LeafBound { state: s });
+impl<'a, S: Site> Check<'a, S> {
+    // Takes leaves and replies for a site to test them, and refuses those that are too few.
+    pub(crate) fn lent(
+        site: &'a S,
+        leaves: &'a [Leaf],
+        replies: &'a [u8],
+    ) -> Result<Check<'a, S>, Fault>
+        ensures { MatchResult result (λ check. (check.pair.site.now ≡ site.now) × (check.pair.leaves.now ≡ leaves.now) × (check.pair.replies.now ≡ replies.now)) (λ fault. lending (S.Site.arena site.now).states leaves.now replies.now ≡ Err (told fault)) }
+    {
+        let pair = Pair::lent(site, leaves, replies)?;
+        let bounds = bounds_of(site);
+        Ok(Check { pair, bounds })
     }
-    let grade = site.grade(s);
-    let events = site.events(s);
-    for a in 0..site.commands(s) {
-        let event = replies[PLACES * s + a] as usize;
-        if event >= events {
+
+    // The covered leaf of state `s`: one command against every event.
+    fn covered_leaf(&self, s: usize, command: u8, rank: u16) -> Result<(), Fault>
+        ensures { answered result ≡ covered_tested (S.Site.arena self.now.pair.site.now) self.now.pair.leaves.now s command rank }
+    {
+        let site = self.pair.site;
+        let command = command as usize;
+        if command >= site.commands(s) {
             return Err(Fault::LeafMove { state: s });
         }
-        open_step(site, leaves, s, grade, here, a, event)?;
+        if rank as usize > self.bounds.doubted {
+            return Err(Fault::LeafBound { state: s });
+        }
+        let grade = site.grade(s);
+        for event in 0..site.events(s) {
+            covered_arrow(s, grade, rank, self.pair.leaf_after(s, command, event))?;
+        }
+        Ok(())
     }
-    Ok(())
-}
 
-// The leaf of state `s`, by its part.
-pub(crate) fn keeps_rule<S: Site>(
-    site: &S,
-    leaves: &[Leaf],
-    replies: &[u8],
-    s: usize,
-    leaf: Leaf,
-    bounds: Bounds,
-) -> Result<(), Fault>
-    requires state { s < (S.Site.arena site.now).states }
-    requires leaves { (S.Site.arena site.now).states ≤ length leaves.now }
-    requires replies { 16 * (S.Site.arena site.now).states ≤ length replies.now }
-    requires bounds { Bounded (S.Site.arena site.now) bounds }
-    ensures { answered result ≡ leaf_tested (S.Site.arena site.now) leaves.now replies.now s leaf }
-{
-    match leaf {
-        Leaf::Covered { command, rank } => covered_leaf(site, leaves, s, command, rank, bounds),
-        Leaf::Open { first, second } => open_leaf(
-            site,
-            leaves,
-            replies,
-            s,
-            (first, second),
-            bounds,
-        ),
+    // The open leaf of state `s`, with its two numbers: every command against the one event of its reply.
+    fn open_leaf(&self, s: usize, numbers: (u16, u16)) -> Result<(), Fault>
+        requires { s < (S.Site.arena self.now.pair.site.now).states }
+        ensures { answered result ≡ open_tested (S.Site.arena self.now.pair.site.now) self.now.pair.leaves.now self.now.pair.replies.now s numbers.0 numbers.1 }
+    {
+        let (first, second) = numbers;
+        if first as usize > self.bounds.confirmed || second as usize > self.bounds.ordinary {
+            return Err(Fault::LeafBound { state: s });
+        }
+        let site = self.pair.site;
+        let grade = site.grade(s);
+        let events = site.events(s);
+        for command in 0..site.commands(s) {
+            let event = self.pair.reply(s, command);
+            if event >= events {
+                return Err(Fault::LeafMove { state: s });
+            }
+            open_arrow(s, grade, numbers, self.pair.leaf_after(s, command, event))?;
+        }
+        Ok(())
+    }
+
+    // The leaf of state `s`, by its part.
+    pub(crate) fn keeps_rule(&self, s: usize, leaf: Leaf) -> Result<(), Fault>
+        requires { s < (S.Site.arena self.now.pair.site.now).states }
+        ensures { answered result ≡ leaf_tested (S.Site.arena self.now.pair.site.now) self.now.pair.leaves.now self.now.pair.replies.now s leaf }
+    {
+        match leaf {
+            Leaf::Covered { command, rank } => self.covered_leaf(s, command, rank),
+            Leaf::Open { first, second } => self.open_leaf(s, (first, second)),
+        }
     }
 }

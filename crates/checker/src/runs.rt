@@ -5,6 +5,7 @@ ghost use Rattle.checker.specs.Rounds.{counted};
 
 use site::grades::Grade;
 
+// No `Option`: `Blank` says in a reader's words what `None` would not, and both variants take part in one match.
 #[derive(Clone, Copy, PartialEq, Eq, Debug)]
 pub enum Run {
     // nothing was placed yet

@@ -1,5 +1,5 @@
 -- The grade that was found is counted once, under its own number.
-use Rattle.std.proofs.Common.{◌≤◌, refl, arith}
+use Rattle.std.proofs.Common.{◌≤◌, arith}
 use Rattle.site.specs.declared.grades.Grade.TheVariants.{Confirmed, Doubted, Ordinary}
 use Rattle.checker.proofs.Tallies.{tallied_next, tally_end}
 use Rattle.checker.proofs.bounding.bounds_of.Goals as goal
@@ -7,13 +7,14 @@ use Rattle.checker.proofs.bounding.bounds_of.Goals.{in-Confirmed, in-Doubted, in
 
 pub loop-s-init : goal.loop-s-init
 loop-s-init g c =
+    let none = c.default-bounds.ensures in
     record {
-      confirmed = refl;
-      doubted = refl;
-      ordinary = refl;
-      few_confirmed = omega arith;
-      few_doubted = omega arith;
-      few_ordinary = omega arith;
+      confirmed = none.0;
+      doubted = none.1.0;
+      ordinary = none.1.1;
+      few_confirmed = omega (arith, none.0);
+      few_doubted = omega (arith, none.1.0);
+      few_ordinary = omega (arith, none.1.1);
     }
 
 pub loop-s-preserved : goal.loop-s-preserved
