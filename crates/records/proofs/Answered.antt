@@ -5,6 +5,10 @@ use Rattle.site.specs.Refusals.{Refusal, unless, and_then}
 use Rattle.records.specs.Repeated.{repeated}
 
 module _ {T : Type 0} where
+  -- a refusal is no answer
+  pub never : {A : Type 0} {x : T} {r : Refusal} → ◌≡◌ {A = Result T Refusal} (Err r) (Ok x) → A
+  never e = let z : ◌≡◌ {A = ℕ} 0 1 = cc in absurd (omega arith)
+
   pub ok_same : {E : Type 0} {x y : T} → ◌≡◌ {A = Result T E} (Ok x) (Ok y) → x ≡ y
   ok_same e = cc
 

@@ -1,7 +1,7 @@
 -- A book that was written is read back: record by record, whatever bytes follow.
-use Rattle.std.proofs.Common.{◌≡◌, ℕ, zero, suc, ◌+◌, ◌*◌, ◌<◌, ◌≤◌, false, List, [], ◌∷◌, ◌++◌, length, get_or, take, drop, Ok, sym, refl, ap, ◌∙◌, inl, inr, zero-add, add-one, arith}
+use Rattle.std.proofs.Common.{◌≡◌, ℕ, zero, suc, ◌+◌, ◌*◌, ◌<◌, ◌≤◌, false, List, [], ◌∷◌, ◌++◌, length, get_or, take, drop, Ok, sym, refl, ap, ◌∙◌, inl, inr, zero-add, arith}
 use Rattle.std.specs.List.{flat_map}
-use Rattle.std.proofs.lemmas.List.{append_assoc, append-nil, length_push, get_or_append_left, get_or_push, get_or-take, get_or-drop, take_more, take_all, flat_map_more}
+use Rattle.std.proofs.lemmas.List.{append_assoc, append-nil, length_push, get_or_append_left, get_or_push, get_or-take, get_or-drop}
 use Rattle.std.proofs.lemmas.Bool.{cases_eq, eq-eqb}
 use Rattle.site.specs.Arena.{Arena, Lawful}
 use Rattle.site.specs.Laid.{laid}
@@ -9,7 +9,7 @@ use Rattle.site.proofs.Laid.{laid_before, laid_within, length_laid}
 use Rattle.checker.specs.Leaves.{leaf_at, is_covered}
 use Rattle.checker.specs.declared.leaves.Leaf.{Leaf}
 use Rattle.checker.specs.declared.leaves.Leaf.TheVariants.{Covered, Open}
-use Rattle.records.specs.BookBytes.{book_head_in, one_reply, replies_in, BookRead, one_leaf, leaves_in, book_ended, book_in}
+use Rattle.records.specs.BookBytes.{book_head_in, reply_in, replies_in, BookRead, one_leaf, leaves_in, book_ended, book_in}
 use Rattle.records.specs.BookRead.{spread}
 use Rattle.records.specs.BookTrip.{BookBack}
 use Rattle.records.specs.BookWritten.{reply_bytes, leaf_bytes, leaves_bytes, book_bytes, leaf_long, leaves_long, book_long, book_answer}
@@ -19,6 +19,7 @@ use Rattle.records.proofs.Answered.{after_ok}
 use Rattle.records.proofs.BookPuts.{own_long, leaves_bytes_long, book_fits}
 use Rattle.records.proofs.Listed.{BytesDone, bytes_there}
 use Rattle.records.proofs.TableTrips.{two_back}
+use Rattle.records.proofs.Taking.{several_back}
 
 -- the replies of a leaf that a book has
 abbrev kept_own : Leaf → List ℕ → List ℕ
@@ -45,27 +46,6 @@ kept_replies_long m leaves replies (suc k) =
     length_push (kept_replies m leaves replies k) (kept_own (leaf_at leaves k) (own_replies m replies k))
     ∙ omega (arith, kept_replies_long m leaves replies k)
 
--- the first i replies
-front_back : (at i : ℕ) (own z : List ℕ) → i ≤ length own → replies_in i at (flat_map reply_bytes (take i own) ++ z) ≡ Ok (record { events = take i own; at = at + 2 * i; left = z })
-front_back at zero own z le = ap (λ a. Ok (record { events = []; at = a; left = z })) (omega arith)
-front_back at (suc i) own z le =
-    let lt : i < length own = omega arith in
-    let x = get_or own i 0 in
-    let front : take (suc i) own ≡ take i own ++ x ∷ [] = rw (← add-one) (take_more own i 0 lt) in
-    let more : flat_map reply_bytes (take i own) ++ reply_bytes x ≡ flat_map reply_bytes (take (suc i) own) = flat_map_more reply_bytes [] (take i own) x ∙ ap (flat_map reply_bytes) (sym front) in
-    let bytes : flat_map reply_bytes (take (suc i) own) ++ z ≡ flat_map reply_bytes (take i own) ++ (reply_bytes x ++ z) = ap (λ b. b ++ z) (sym more) ∙ append_assoc (flat_map reply_bytes (take i own)) (reply_bytes x) z in
-    let old = ap (λ bs. replies_in i at bs) bytes ∙ front_back at i own (reply_bytes x ++ z) (omega arith) in
-    let place : at + 2 * i + 2 ≡ at + 2 * suc i = omega arith in
-    after_ok (replies_in i at (flat_map reply_bytes (take (suc i) own) ++ z)) _ one_reply old
-    ∙ rw (place, front) refl
-
--- the replies of a leaf
-replies_back : (at c : ℕ) (own z : List ℕ) → length own ≡ c → replies_in c at (flat_map reply_bytes own ++ z) ≡ Ok (record { events = own; at = at + 2 * c; left = z })
-replies_back at c own z long =
-    let all : take c own ≡ own = take_all c own (omega arith) in
-    let e = front_back at c own z (omega arith) in
-    rw all at e
-
 -- a leaf with its replies, after others
 leaf_back : (m : Arena) (leaf : Leaf) (own : List ℕ) (leaves : List Leaf) (replies : List (List ℕ)) (at : ℕ) (z : List ℕ) → length own ≡ m.commands (length leaves) → one_leaf m (record { leaves = leaves; replies = replies; at = at; left = leaf_bytes leaf own ++ z }) ≡ Ok (record { leaves = leaves ++ leaf ∷ []; replies = replies ++ kept_own leaf own ∷ []; at = at + leaf_long leaf (m.commands (length leaves)); left = z })
 leaf_back m (Covered a r) own leaves replies at z long = rw (two_back r) refl
@@ -73,7 +53,7 @@ leaf_back m (Open u w) own leaves replies at z long =
     let c = m.commands (length leaves) in
     let place : at + 5 + 2 * c ≡ at + (5 + 2 * c) = omega arith in
     rw (two_back u, two_back w)
-    (after_ok (replies_in c (at + 5) (flat_map reply_bytes own ++ z)) _ _ (replies_back (at + 5) c own z long) ∙ rw place refl)
+    (after_ok (replies_in c (at + 5) (flat_map reply_bytes own ++ z)) _ _ (several_back reply_in 2 reply_bytes 0 own (λ i lt at' z'. refl) (at + 5) c z long) ∙ rw place refl)
 
 -- the leaves
 leaves_back : (m : Arena) → Lawful m → (leaves : List Leaf) (replies : List ℕ) (k : ℕ) (z : List ℕ) → k ≤ m.states → 16 * m.states ≤ length replies → leaves_in m k (leaves_bytes m leaves replies k ++ z) ≡ Ok (record { leaves = kept_leaves leaves k; replies = kept_replies m leaves replies k; at = 3 + leaves_long m leaves k; left = z })
@@ -175,8 +155,8 @@ book_trip m law leaves replies room =
     }
 
 -- also from the buffer that they were written into
-pub book_written_back : {before after : List ℕ} {end : ℕ} (m : Arena) (leaves : List Leaf) (replies : List ℕ) (room : ℕ) → Lawful m → m.states ≤ length leaves → 16 * m.states ≤ length replies → book_long m leaves ≤ room → room ≡ length before → BytesDone (book_answer m leaves replies room) before end after → BookBack m leaves replies (take end after)
-book_written_back {before} {after} {end} m leaves replies room law leaf_room reply_room fits room_is d =
-    let e = book_fits m leaves replies room leaf_room reply_room fits in
-    let same : take end after ≡ book_bytes m leaves replies = bytes_there (book_answer m leaves replies room) (book_bytes m leaves replies) e (omega (arith, leaves_bytes_long m law leaves replies m.states (omega arith) reply_room)) d in
-    rw same (book_trip m law leaves replies reply_room)
+pub book_written_back : {r end : ℕ} {last after : List ℕ} (m : Arena) (leaves : List Leaf) (replies before : List ℕ) → Lawful m → m.states ≤ length leaves → 16 * m.states ≤ length replies → book_long m leaves ≤ length before → BytesDone (book_answer m leaves replies (length before)) before end after → r ≡ end → last ≡ after → BookBack m leaves replies (take r last)
+book_written_back {r} {end} {last} {after} m leaves replies before law leaf_room reply_room fits d r_is last_is =
+    let e = book_fits m leaves replies (length before) leaf_room reply_room fits in
+    let same : take end after ≡ book_bytes m leaves replies = bytes_there (book_answer m leaves replies (length before)) (book_bytes m leaves replies) e (omega (arith, leaves_bytes_long m law leaves replies m.states (omega arith) reply_room)) d in
+    rw (r_is, last_is, same) (book_trip m law leaves replies reply_room)

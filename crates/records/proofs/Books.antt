@@ -1,26 +1,26 @@
 -- The whole scan of a book, and the two scans of reading.
-use Rattle.std.proofs.Common.{◌≡◌, ℕ, ◌*◌, ◌<◌, ◌≤◌, ltb, List, length, IfOk, Ok, Err, Result, sym, refl, ap, ◌∙◌, arith}
-use Rattle.std.proofs.lemmas.Bool.{le-ltb, lt-ltb, cond-false, cond-true}
+use Rattle.std.proofs.Common.{◌≡◌, ℕ, ◌*◌, ◌<◌, ◌≤◌, ltb, List, length, IfOk, Ok, Err, Result, sym, ap, ◌∙◌, arith}
+use Rattle.std.proofs.lemmas.Bool.{le-ltb, cond-false}
 use Rattle.std.specs.List.{AllByRecursion as All}
 use Rattle.site.specs.Arena.{Arena, Lawful}
-use Rattle.site.specs.Refusals.{answered, refuse}
+use Rattle.site.specs.Refusals.{answered}
 use Rattle.site.specs.declared.faults.Fault.{Fault}
-use Rattle.site.specs.declared.faults.Fault.TheVariants.{TooShort}
 use Rattle.checker.specs.declared.leaves.Leaf.{Leaf}
 use Rattle.records.specs.BookBytes.{BookRead, book_head_in, leaves_in, book_ended, book_in}
 use Rattle.records.specs.BookRead.{book_fitted, book_read, states_read, leaves_after, replies_after}
 use Rattle.records.specs.BookScanning.{LeavesDone, BookDone, BookScanned}
 use Rattle.records.specs.BookWritten.{book_bytes}
-use Rattle.records.proofs.Answered.{after_ok}
+use Rattle.records.specs.declared.unread.Unread.{Unread}
+use Rattle.records.proofs.Answered.{never, after_ok}
 use Rattle.records.proofs.BookSpelled.{book_spelled}
 
 -- the head and all leaves were read, and nothing is left
-pub book_scan_done : {m : Arena} {bs body left : List ℕ} {old_leaves leaves : List Leaf} {old_replies replies : List ℕ} {n at : ℕ} → n ≡ m.states → book_head_in n bs ≡ Ok body → LeavesDone m body old_leaves old_replies m.states at left leaves replies → length left ≤ 0 → BookDone m bs old_leaves old_replies n leaves replies
-book_scan_done {m} {bs} {body} {left} {old_leaves} {leaves} {old_replies} {replies} {n} {at} n_is h d none =
-    let found : BookRead = record { leaves = d.leaves; replies = d.replies; at = at; left = left } in
+pub book_scan_done : {m : Arena} {bs body : List ℕ} {end : Unread} {old_leaves leaves : List Leaf} {old_replies replies : List ℕ} {n : ℕ} → n ≡ m.states → book_head_in n bs ≡ Ok body → LeavesDone m body old_leaves old_replies m.states end leaves replies → length end.bytes.now ≤ 0 → BookDone m bs old_leaves old_replies n leaves replies
+book_scan_done {m} {bs} {body} {end} {old_leaves} {leaves} {old_replies} {replies} {n} n_is h d none =
+    let found : BookRead = record { leaves = d.leaves; replies = d.replies; at = end.at; left = end.bytes.now } in
     record {
       found = found;
-      read = after_ok (book_head_in m.states bs) body _ (rw n_is at h) ∙ (after_ok (leaves_in m m.states body) found book_ended d.read ∙ cond-false (ltb 0 (length left)) _ _ (le-ltb 0 (length left) none));
+      read = after_ok (book_head_in m.states bs) body _ (rw n_is at h) ∙ (after_ok (leaves_in m m.states body) found book_ended d.read ∙ cond-false (ltb 0 (length end.bytes.now)) _ _ (le-ltb 0 (length end.bytes.now) none));
       measures = n_is;
       many = d.many_leaves;
       leaf_sheet = d.leaf_sheet;
@@ -38,18 +38,6 @@ first_found : (m : Arena) (bs : List ℕ) (lr rr : ℕ) (rd : BookRead) → book
 first_found m bs lr rr rd e = after_ok (book_in m bs) rd (book_fitted m.states lr rr) e
 
 module _ {m : Arena} {bs : List ℕ} {old_leaves none_leaves none_leaves' : List Leaf} {old_replies none_replies none_replies' : List ℕ} {n : ℕ} (d : BookDone m bs none_leaves none_replies n none_leaves' none_replies') where
-  -- too few leaves
-  pub short_leaves : length old_leaves < n → BookLaid m bs old_leaves old_replies (Err (TooShort n)) old_leaves old_replies
-  short_leaves lt =
-      let e : book_read m bs (length old_leaves) (length old_replies) ≡ refuse 9 n = first_found m bs (length old_leaves) (length old_replies) d.found d.read ∙ rw (← d.measures) (cond-true _ _ _ (lt-ltb (length old_leaves) n lt)) in
-      record { answer = rw e refl; leaf_sheet = rw e refl; reply_sheet = rw e refl; trip = tt }
-
-  -- too few replies
-  pub short_replies : n ≤ length old_leaves → length old_replies < 16 * n → BookLaid m bs old_leaves old_replies (Err (TooShort (16 * n))) old_leaves old_replies
-  short_replies le lt =
-      let e : book_read m bs (length old_leaves) (length old_replies) ≡ refuse 9 (16 * n) = first_found m bs (length old_leaves) (length old_replies) d.found d.read ∙ rw (← d.measures) (cond-false _ _ _ (le-ltb (length old_leaves) n le) ∙ cond-true _ _ _ (lt-ltb (length old_replies) (16 * n) lt)) in
-      record { answer = rw e refl; leaf_sheet = rw e refl; reply_sheet = rw e refl; trip = tt }
-
   -- when the first scan found the book, and there is room for it, the second lays it down
   pub second_book_scan : (r : Result ℕ Fault) (leaves : List Leaf) (replies : List ℕ) → Lawful m → All (λ b. b < 256) bs → n ≤ length old_leaves → 16 * n ≤ length old_replies → BookScanned m bs old_leaves old_replies r leaves replies → BookLaid m bs old_leaves old_replies r leaves replies
   second_book_scan (Ok again) leaves replies law h le le' s =
@@ -61,4 +49,4 @@ module _ {m : Arena} {bs : List ℕ} {old_leaves none_leaves none_leaves' : List
         reply_sheet = rw e s.reply_sheet;
         trip = rw (s.leaf_sheet, s.reply_sheet) (book_spelled m law bs s.found old_leaves old_replies h s.read (omega (arith, d.measures)) (omega (arith, d.measures)));
       }
-  second_book_scan (Err f) leaves replies law h le le' s = let z : ◌≡◌ {A = ℕ} 0 1 = cc in absurd (omega arith)
+  second_book_scan (Err f) leaves replies law h le le' s = never (sym s ∙ d.read)

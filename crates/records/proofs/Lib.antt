@@ -1,16 +1,15 @@
 pub mod Answered
 pub mod BookPuts
-pub mod BookReaders
 pub mod BookScans
 pub mod BookSpelled
 pub mod BookTrips
 pub mod Books
 pub mod Listed
 pub mod Putting
-pub mod Readers
 pub mod Scans
 pub mod Sound
 pub mod TablePuts
 pub mod TableSpelled
 pub mod TableTrips
 pub mod Tables
+pub mod Taking

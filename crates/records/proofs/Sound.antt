@@ -1,7 +1,7 @@
 -- A table that was read is fair: its rows and arrows are in order on any sheets that they were laid over.
 use Rattle.std.proofs.Common.{◌≡◌, ℕ, zero, suc, ◌+◌, ◌*◌, ◌<◌, ◌≤◌, Bool, true, ◌||◌, eqb, ltb, leb, List, [], ◌∷◌, ◌++◌, length, get_or, Ok, sym, refl, ap, ◌∙◌, subst, zero-add, arith}
 use Rattle.std.specs.List.{AllByRecursion as All}
-use Rattle.std.proofs.ByRecursion.{All-push, All-append, All-get_or}
+use Rattle.std.proofs.ByRecursion.{All-append, All-get_or}
 use Rattle.std.proofs.lemmas.List.{length_push, length-append, get_or_push, get_or_append_left}
 use Rattle.std.proofs.lemmas.Bool.{ltb-false, leb-false, eqb-false, or_parts, and_from, le-leb, lt-ltb}
 use Rattle.site.specs.Counting.{every}
@@ -9,8 +9,10 @@ use Rattle.site.specs.Laid.{laid}
 use Rattle.site.specs.Tables.{no_row, row_at, row_ok, row_fair, arrow_fair, arrows_before, fair}
 use Rattle.site.specs.declared.sheets.Row.{Row}
 use Rattle.site.proofs.Laid.{laid_within, length_laid}
-use Rattle.records.specs.TableBytes.{Found, two_bytes, head_body, head_in, row_in, arrow_body, arrow_in, Arrows, one_arrow, arrows_in, Read, one_state, states_in, ended, table_in}
-use Rattle.records.proofs.Answered.{ok_same, unless_ok, and_then_ok, repeated_keeps}
+use Rattle.records.specs.TableBytes.{two_bytes, head_body, head_in, row_in, arrow_body, arrow_in, arrows_in, Read, one_state, states_in, ended, table_in}
+use Rattle.records.proofs.Answered.{never, ok_same, unless_ok, and_then_ok, repeated_keeps}
+use Rattle.records.specs.Taken.{Found, Several}
+use Rattle.records.proofs.Taking.{SeveralSound, several_sound}
 use Rattle.records.proofs.Scans.{of_kind_ok, row_read_is}
 
 -- what holds of each number below n
@@ -34,8 +36,8 @@ rows_same xs ys k h =
     every_same (row_fair xs) (row_fair ys) k (λ s lt. rw (h s lt, arrows_same xs ys s (λ t le. h t (omega arith))) refl)
 
 arrow_body_below : (n at : ℕ) (bs : List ℕ) (f : Found ℕ) → arrow_body n at bs ≡ Ok f → f.what < n
-arrow_body_below n at [] f e = let z : ◌≡◌ {A = ℕ} 0 1 = cc in absurd (omega arith)
-arrow_body_below n at (hi ∷ []) f e = let z : ◌≡◌ {A = ℕ} 0 1 = cc in absurd (omega arith)
+arrow_body_below n at [] f e = never e
+arrow_body_below n at (hi ∷ []) f e = never e
 arrow_body_below n at (hi ∷ (lo ∷ left)) f e =
     let p = unless_ok (leb n (two_bytes hi lo)) 7 at _ f e in
     let same : two_bytes hi lo ≡ f.what = cc in
@@ -43,27 +45,12 @@ arrow_body_below n at (hi ∷ (lo ∷ left)) f e =
 
 -- an arrow leads to one of the states
 arrow_below : (n at : ℕ) (bs : List ℕ) (f : Found ℕ) → arrow_in n at bs ≡ Ok f → f.what < n
-arrow_below n at [] f e = let z : ◌≡◌ {A = ℕ} 0 1 = cc in absurd (omega arith)
+arrow_below n at [] f e = never e
 arrow_below n at (k ∷ bs) f e = arrow_body_below n at bs f (of_kind_ok 3 at k (arrow_body n at) bs f e)
 
 -- arrows that were read are k, and lead to the states
-pub record AimsSound (n k : ℕ) (a : Arrows) : Type 0 where
-  pub many : length a.aims ≡ k
-  pub aims : All (λ t. t < n) a.aims
-
-aims_step : (n k : ℕ) (a b : Arrows) → AimsSound n k a → one_arrow n a ≡ Ok b → AimsSound n (suc k) b
-aims_step n k a b s e =
-    let p = and_then_ok (arrow_in n a.at a.left) _ b e in
-    let v = p.0.what in
-    let same : a.aims ++ v ∷ [] ≡ b.aims = cc p.2 in
-    record {
-      many = rw (← same) (length_push a.aims v ∙ omega (arith, s.many));
-      aims = rw (← same) (All-push (λ t. t < n) a.aims v s.aims (arrow_below n a.at a.left p.0 p.1));
-    }
-
-pub arrows_sound : (n k at : ℕ) (bs : List ℕ) (a : Arrows) → arrows_in n k at bs ≡ Ok a → AimsSound n k a
-arrows_sound n k at bs a e =
-    repeated_keeps (one_arrow n) (AimsSound n) (aims_step n) k _ a (record { many = refl; aims = tt }) e
+pub arrows_sound : (n k at : ℕ) (bs : List ℕ) (a : Several ℕ) → arrows_in n k at bs ≡ Ok a → SeveralSound (λ t. t < n) k a
+arrows_sound n = several_sound (arrow_in n) 3 (λ t. t < n) (arrow_below n)
 
 -- k states that were read: their rows are in order, and their arrows are all there and lead to the states
 pub record Sound (n k : ℕ) (rd : Read) : Type 0 where
@@ -98,15 +85,15 @@ state_step n k a b s e =
     let q = and_then_ok (arrows_in n (row.commands * row.events) (a.at + 4) p.0.left) _ b p.2 in
     let more = arrows_sound n (row.commands * row.events) (a.at + 4) p.0.left q.0 q.1 in
     let r = row_read_is a.at (length a.arrows) a.left p.0 p.1 in
-    subst (Sound n (suc k)) (ok_same q.2) (sound_more n k a row q.0.aims q.0.at q.0.left s r.ok more.many more.aims)
+    subst (Sound n (suc k)) (ok_same q.2) (sound_more n k a row q.0.items q.0.at q.0.left s r.ok more.many more.all)
 
 pub states_sound : (n k : ℕ) (bs : List ℕ) (rd : Read) → states_in n k bs ≡ Ok rd → Sound n k rd
 states_sound n k bs rd e =
     repeated_keeps (one_state n) (Sound n) (state_step n) k _ rd (record { many = refl; fine = refl; total = refl; aims = tt }) e
 
 head_body_range : (bs : List ℕ) (f : Found ℕ) → head_body bs ≡ Ok f → (1 ≤ f.what) × (f.what ≤ 1024)
-head_body_range [] f e = let z : ◌≡◌ {A = ℕ} 0 1 = cc in absurd (omega arith)
-head_body_range (hi ∷ []) f e = let z : ◌≡◌ {A = ℕ} 0 1 = cc in absurd (omega arith)
+head_body_range [] f e = never e
+head_body_range (hi ∷ []) f e = never e
 head_body_range (hi ∷ (lo ∷ left)) f e =
     let p = unless_ok (eqb (two_bytes hi lo) 0 || ltb 1024 (two_bytes hi lo)) 3 0 _ f e in
     let q = or_parts (eqb (two_bytes hi lo) 0) (ltb 1024 (two_bytes hi lo)) p.0 in
@@ -117,7 +104,7 @@ head_body_range (hi ∷ (lo ∷ left)) f e =
 
 -- a head says 1 to 1,024 states
 pub head_range : (bs : List ℕ) (f : Found ℕ) → head_in bs ≡ Ok f → (1 ≤ f.what) × (f.what ≤ 1024)
-head_range [] f e = let z : ◌≡◌ {A = ℕ} 0 1 = cc in absurd (omega arith)
+head_range [] f e = never e
 head_range (k ∷ bs) f e = head_body_range bs f (of_kind_ok 1 0 k head_body bs f e)
 
 -- sound rows and arrows are fair on the sheets that they are laid over

@@ -1,8 +1,8 @@
 -- A table that was read is written again as the same bytes.
-use Rattle.std.proofs.Common.{◌≡◌, ℕ, zero, suc, ◌+◌, ◌*◌, ◌/◌, ◌%◌, ◌<◌, ◌≤◌, not, ◌||◌, eqb, ltb, leb, List, [], ◌∷◌, ◌++◌, length, get_or, take, Ok, Result, sym, refl, ap, ◌∙◌, subst, mod-lt, div-add-mod', zero-add, add-one, arith}
+use Rattle.std.proofs.Common.{◌≡◌, ℕ, suc, ◌+◌, ◌*◌, ◌/◌, ◌%◌, ◌<◌, ◌≤◌, not, ◌||◌, eqb, ltb, leb, List, [], ◌∷◌, ◌++◌, length, get_or, Ok, Result, sym, refl, ap, ◌∙◌, subst, mod-lt, div-add-mod', zero-add, arith}
 use Rattle.std.specs.List.{flat_map, AllByRecursion as All}
 use Rattle.std.proofs.lemmas.Nat.{div_below}
-use Rattle.std.proofs.lemmas.List.{append_assoc, append-nil, flat_map_more, get_or_append_left, get_or-append-add, get_or_push, nil_from_length, take_more, take_all}
+use Rattle.std.proofs.lemmas.List.{append_assoc, append-nil, get_or_append_left, get_or-append-add, get_or_push, nil_from_length, ext_get_or}
 use Rattle.std.proofs.lemmas.Bool.{not-false, eqb-true, ltb-false}
 use Rattle.site.specs.Arena.{Arena}
 use Rattle.site.specs.Grades.{grade_number}
@@ -13,20 +13,13 @@ use Rattle.site.specs.TableLaws.{cond_within, own_arrow, arrows_mono, row_ok_is}
 use Rattle.site.specs.CountingLaws.{every_at}
 use Rattle.site.specs.declared.sheets.Row.{Row}
 use Rattle.site.proofs.Laid.{laid_within}
-use Rattle.records.specs.TableBytes.{Found, two_bytes, of_kind, head_body, head_in, numbered_grade, bad_count, row_of, row_body, row_in, arrow_body, arrow_in, Arrows, one_arrow, arrows_in, Read, one_state, states_in, ended, table_in}
+use Rattle.records.specs.TableBytes.{two_bytes, of_kind, head_body, head_in, numbered_grade, bad_count, row_of, row_body, row_in, arrow_body, arrow_in, arrows_in, Read, one_state, states_in, ended, table_in}
 use Rattle.records.specs.TableWritten.{numbered, aim, arrows_bytes, row_bytes, moves, states_bytes, table_bytes}
-use Rattle.records.proofs.Answered.{ok_same, unless_ok, and_then_ok, repeated_keeps}
+use Rattle.records.proofs.Answered.{never, ok_same, unless_ok, and_then_ok, repeated_keeps}
 use Rattle.records.proofs.Sound.{Sound, state_step, arrows_sound, arrows_same}
-use Rattle.records.proofs.TableTrips.{grade_back}
-
--- a number of one byte
-abbrev pub Byte : ℕ → Type 0
-Byte b = b < 256
-
--- the bytes after others
-pub all_after : (xs ys : List ℕ) → All Byte (xs ++ ys) → All Byte ys
-all_after [] ys h = h
-all_after (x ∷ xs) ys h = all_after xs ys h.1
+use Rattle.records.proofs.TableTrips.{state_aims, state_aims_long, aim_there, aims_bytes, grade_back}
+use Rattle.records.specs.Taken.{Found}
+use Rattle.records.proofs.Taking.{Byte, all_after, several_spelled}
 
 -- the kind of a record that was read
 pub kind_is : {T : Type 0} (kind at k : ℕ) (body : List ℕ → Result T Refusal) (bs : List ℕ) (x : T) → of_kind kind at body (k ∷ bs) ≡ Ok x → k ≡ kind
@@ -41,8 +34,8 @@ two_spelled kind hi lo v z small e =
     rw (← high, ← low) refl
 
 arrow_body_spelled : (n at : ℕ) (bs : List ℕ) (f : Found ℕ) → All Byte bs → arrow_body n at bs ≡ Ok f → 3 ∷ bs ≡ numbered 3 f.what ++ f.left
-arrow_body_spelled n at [] f h e = let z : ◌≡◌ {A = ℕ} 0 1 = cc in absurd (omega arith)
-arrow_body_spelled n at (hi ∷ []) f h e = let z : ◌≡◌ {A = ℕ} 0 1 = cc in absurd (omega arith)
+arrow_body_spelled n at [] f h e = never e
+arrow_body_spelled n at (hi ∷ []) f h e = never e
 arrow_body_spelled n at (hi ∷ (lo ∷ left)) f h e =
     let p = unless_ok (leb n (two_bytes hi lo)) 7 at _ f e in
     let value : two_bytes hi lo ≡ f.what = cc in
@@ -51,35 +44,15 @@ arrow_body_spelled n at (hi ∷ (lo ∷ left)) f h e =
 
 -- an arrow
 arrow_spelled : (n at : ℕ) (bs : List ℕ) (f : Found ℕ) → All Byte bs → arrow_in n at bs ≡ Ok f → bs ≡ numbered 3 f.what ++ f.left
-arrow_spelled n at [] f h e = let z : ◌≡◌ {A = ℕ} 0 1 = cc in absurd (omega arith)
+arrow_spelled n at [] f h e = never e
 arrow_spelled n at (k ∷ bs) f h e =
     ap (λ j. j ∷ bs) (kind_is 3 at k (arrow_body n at) bs f e)
     ∙ arrow_body_spelled n at bs f h.1 (unless_ok (not (eqb k 3)) 2 at (arrow_body n at bs) f e).1
 
--- arrows that were read from bs
-pub record AimsSpelled (bs : List ℕ) (a : Arrows) : Type 0 where
-  pub spelled : bs ≡ flat_map (numbered 3) a.aims ++ a.left
-  pub rest : All Byte a.left
-
-aims_spelled_step : (bs : List ℕ) (n : ℕ) (a b : Arrows) → AimsSpelled bs a → one_arrow n a ≡ Ok b → AimsSpelled bs b
-aims_spelled_step bs n a b s e =
-    let p = and_then_ok (arrow_in n a.at a.left) _ b e in
-    let v = p.0.what in
-    let here : a.left ≡ numbered 3 v ++ p.0.left = arrow_spelled n a.at a.left p.0 s.rest p.1 in
-    let more : flat_map (numbered 3) a.aims ++ numbered 3 v ≡ flat_map (numbered 3) (a.aims ++ v ∷ []) = flat_map_more (numbered 3) [] a.aims v in
-    subst (AimsSpelled bs) (ok_same p.2) (record {
-      spelled = s.spelled ∙ (ap (λ z. flat_map (numbered 3) a.aims ++ z) here ∙ (sym (append_assoc (flat_map (numbered 3) a.aims) (numbered 3 v) p.0.left) ∙ ap (λ z. z ++ p.0.left) more));
-      rest = all_after (numbered 3 v) p.0.left (subst (All Byte) here s.rest);
-    })
-
-aims_spelled : (n k at : ℕ) (bs : List ℕ) (a : Arrows) → All Byte bs → arrows_in n k at bs ≡ Ok a → AimsSpelled bs a
-aims_spelled n k at bs a h e =
-    repeated_keeps (one_arrow n) (λ _. AimsSpelled bs) (λ _. aims_spelled_step bs n) k _ a (record { spelled = refl; rest = h }) e
-
 row_body_spelled : (at first : ℕ) (bs : List ℕ) (f : Found Row) → row_body at first bs ≡ Ok f → bs ≡ grade_number f.what.grade ∷ (f.what.commands ∷ (f.what.events ∷ f.left))
-row_body_spelled at first [] f e = let z : ◌≡◌ {A = ℕ} 0 1 = cc in absurd (omega arith)
-row_body_spelled at first (g ∷ []) f e = let z : ◌≡◌ {A = ℕ} 0 1 = cc in absurd (omega arith)
-row_body_spelled at first (g ∷ (c ∷ [])) f e = let z : ◌≡◌ {A = ℕ} 0 1 = cc in absurd (omega arith)
+row_body_spelled at first [] f e = never e
+row_body_spelled at first (g ∷ []) f e = never e
+row_body_spelled at first (g ∷ (c ∷ [])) f e = never e
 row_body_spelled at first (g ∷ (c ∷ (v ∷ left))) f e =
     let p = and_then_ok (row_of at first g c v) _ f e in
     let same : p.0 ≡ f.what = cc in
@@ -94,14 +67,14 @@ row_body_spelled at first (g ∷ (c ∷ (v ∷ left))) f e =
 
 -- a row
 row_spelled : (at first : ℕ) (bs : List ℕ) (f : Found Row) → row_in at first bs ≡ Ok f → bs ≡ 2 ∷ (grade_number f.what.grade ∷ (f.what.commands ∷ (f.what.events ∷ f.left)))
-row_spelled at first [] f e = let z : ◌≡◌ {A = ℕ} 0 1 = cc in absurd (omega arith)
+row_spelled at first [] f e = never e
 row_spelled at first (k ∷ bs) f e =
     ap (λ j. j ∷ bs) (kind_is 2 at k (row_body at first) bs f e)
     ∙ ap (λ z. 2 ∷ z) (row_body_spelled at first bs f (unless_ok (not (eqb k 2)) 2 at (row_body at first bs) f e).1)
 
 head_body_spelled : (bs : List ℕ) (f : Found ℕ) → All Byte bs → head_body bs ≡ Ok f → 1 ∷ bs ≡ numbered 1 f.what ++ f.left
-head_body_spelled [] f h e = let z : ◌≡◌ {A = ℕ} 0 1 = cc in absurd (omega arith)
-head_body_spelled (hi ∷ []) f h e = let z : ◌≡◌ {A = ℕ} 0 1 = cc in absurd (omega arith)
+head_body_spelled [] f h e = never e
+head_body_spelled (hi ∷ []) f h e = never e
 head_body_spelled (hi ∷ (lo ∷ left)) f h e =
     let p = unless_ok (eqb (two_bytes hi lo) 0 || ltb 1024 (two_bytes hi lo)) 3 0 _ f e in
     let value : two_bytes hi lo ≡ f.what = cc in
@@ -110,7 +83,7 @@ head_body_spelled (hi ∷ (lo ∷ left)) f h e =
 
 -- the head
 head_spelled : (bs : List ℕ) (f : Found ℕ) → All Byte bs → head_in bs ≡ Ok f → bs ≡ numbered 1 f.what ++ f.left
-head_spelled [] f h e = let z : ◌≡◌ {A = ℕ} 0 1 = cc in absurd (omega arith)
+head_spelled [] f h e = never e
 head_spelled (k ∷ bs) f h e =
     ap (λ j. j ∷ bs) (kind_is 1 0 k head_body bs f e)
     ∙ head_body_spelled bs f h.1 (unless_ok (not (eqb k 1)) 2 0 (head_body bs) f e).1
@@ -123,18 +96,11 @@ pub record Holds (m : Arena) (rows : List Row) (arrows : List ℕ) (k : ℕ) : T
   pub aims : (s i : ℕ) → s < k → i < moves m s → aim m s i ≡ get_or arrows (arrows_before rows s + i) 0
 
 -- the arrows of a state, from a list of them
-front_spelled : (m : Arena) (s i : ℕ) (aims : List ℕ) → i ≤ length aims → ((j : ℕ) → j < length aims → aim m s j ≡ get_or aims j 0) → arrows_bytes m s i ≡ flat_map (numbered 3) (take i aims)
-front_spelled m s zero aims le same = refl
-front_spelled m s (suc i) aims le same =
-    let lt : i < length aims = omega arith in
-    let old = front_spelled m s i aims (omega arith) same in
-    let more : flat_map (numbered 3) (take i aims) ++ numbered 3 (get_or aims i 0) ≡ flat_map (numbered 3) (take i aims ++ get_or aims i 0 ∷ []) = flat_map_more (numbered 3) [] (take i aims) (get_or aims i 0) in
-    let front : take (suc i) aims ≡ take i aims ++ get_or aims i 0 ∷ [] = rw (← add-one) (take_more aims i 0 lt) in
-    rw (old, same i lt, more, ← front) refl
-
 arrows_spelled : (m : Arena) (s k : ℕ) (aims : List ℕ) → length aims ≡ k → ((j : ℕ) → j < length aims → aim m s j ≡ get_or aims j 0) → arrows_bytes m s k ≡ flat_map (numbered 3) aims
 arrows_spelled m s k aims long same =
-    front_spelled m s k aims (omega arith) same ∙ ap (flat_map (numbered 3)) (take_all k aims (omega arith))
+    let many = state_aims_long m s k in
+    aims_bytes m s k
+    ∙ ap (flat_map (numbered 3)) (ext_get_or 0 (state_aims m s k) aims (many ∙ sym long) (λ j lt. aim_there m s k j (omega arith) ∙ same j (omega arith)))
 
 -- what holds of all rows holds of those before the last
 holds_before : (m : Arena) (rows : List Row) (row : Row) (arrows aims : List ℕ) (k : ℕ) → length rows ≡ k → arrows_before rows k ≡ length arrows → Holds m (rows ++ row ∷ []) (arrows ++ aims) (suc k) → Holds m rows arrows k
@@ -176,10 +142,10 @@ states_spelled_step m n bs k a b s e =
     let p = and_then_ok (row_in a.at (length a.arrows) a.left) _ b e in
     let row = p.0.what in
     let q = and_then_ok (arrows_in n (row.commands * row.events) (a.at + 4) p.0.left) _ b p.2 in
-    let aims = q.0.aims in
+    let aims = q.0.items in
     let front : a.left ≡ 2 ∷ (grade_number row.grade ∷ (row.commands ∷ (row.events ∷ p.0.left))) = row_spelled a.at (length a.arrows) a.left p.0 p.1 in
     let tail : All Byte p.0.left = all_after (2 ∷ (grade_number row.grade ∷ (row.commands ∷ (row.events ∷ [])))) p.0.left (subst (All Byte) front s.rest) in
-    let more = aims_spelled n (row.commands * row.events) (a.at + 4) p.0.left q.0 tail q.1 in
+    let more = several_spelled (arrow_in n) 3 (numbered 3) (arrow_spelled n) (row.commands * row.events) (a.at + 4) p.0.left q.0 tail q.1 in
     let many = (arrows_sound n (row.commands * row.events) (a.at + 4) p.0.left q.0 q.1).many in
     let here : Holds m (a.rows ++ row ∷ []) (a.arrows ++ aims) (suc k) → a.left ≡ (row_bytes m k ++ arrows_bytes m k (moves m k)) ++ q.0.left = λ h. front ∙ (ap (λ z. 2 ∷ (grade_number row.grade ∷ (row.commands ∷ (row.events ∷ z)))) more.spelled ∙ ap (λ z. z ++ q.0.left) (sym (last_spelled m a.rows row a.arrows aims k s.sound.many s.sound.total many h))) in
     record {

@@ -1,8 +1,8 @@
 -- A table that was written is read back: record by record, whatever bytes follow.
-use Rattle.std.proofs.Common.{◌≡◌, ℕ, zero, suc, ◌+◌, ◌*◌, ◌/◌, ◌%◌, ◌<◌, ◌≤◌, false, ◌||◌, eqb, ltb, List, [], ◌∷◌, ◌++◌, length, get_or, take, Ok, sym, refl, ap, ◌∙◌, inl, inr, mul-le-mul_right, suc-mul, zero-add, arith}
+use Rattle.std.proofs.Common.{◌≡◌, ℕ, zero, suc, ◌+◌, ◌*◌, ◌/◌, ◌%◌, ◌<◌, ◌≤◌, false, ◌||◌, eqb, ltb, List, [], ◌∷◌, ◌++◌, length, get_or, take, Ok, sym, refl, ap, ◌∙◌, inl, inr, zero-add, arith}
 use native.Mathlib.Nat.{div-add-mod}
-use lib.Arith.{digits_div, digits_mod}
-use Rattle.std.proofs.lemmas.List.{append_assoc, append-nil, length-append, length_push, get_or_append_left, get_or-append-add, get_or_push}
+use Rattle.std.specs.List.{flat_map}
+use Rattle.std.proofs.lemmas.List.{append_assoc, append-nil, length-append, length_push, flat_map_more, get_or_append_left, get_or-append-add, get_or_push}
 use Rattle.std.proofs.lemmas.Bool.{cases_eq, cases_lt, le-ltb, lt-leb, ne_eqb, or_from}
 use Rattle.site.specs.Arena.{Arena, Lawful}
 use Rattle.site.specs.Grades.{grade_number}
@@ -11,12 +11,13 @@ use Rattle.site.proofs.Laid.{laid_within}
 use Rattle.site.specs.Tables.{no_row, row_at, table}
 use Rattle.site.specs.TableLaws.{cond_within, cond_past, own_arrow, no_own_command, no_own_event}
 use Rattle.site.specs.declared.sheets.Row.{Row}
-use Rattle.records.specs.TableBytes.{two_bytes, head_in, numbered_grade, bad_count, row_in, arrow_in, one_arrow, arrows_in, Read, one_state, states_in, ended, table_in}
+use Rattle.records.specs.TableBytes.{two_bytes, head_in, numbered_grade, bad_count, row_in, arrow_in, arrows_in, Read, one_state, states_in, ended, table_in}
 use Rattle.records.specs.TableTrip.{Alike, ReadBack}
 use Rattle.records.specs.TableWritten.{numbered, aim, arrows_bytes, row_bytes, moves, states_bytes, table_bytes, arrows_to, table_long, table_answer}
 use Rattle.records.proofs.Answered.{after_ok}
 use Rattle.records.proofs.Listed.{BytesDone, bytes_there}
-use Rattle.records.proofs.TablePuts.{aim_below, arrows_to_grows, table_fits, table_bytes_long}
+use Rattle.records.proofs.Taking.{several_back}
+use Rattle.records.proofs.TablePuts.{aim_of, arrow_among, aim_below, arrows_to_grows, table_fits, table_bytes_long}
 
 -- two bytes are their number
 pub two_back : (v : ℕ) → two_bytes (v / 256) (v % 256) ≡ v
@@ -30,7 +31,7 @@ abbrev table_rows : Arena → ℕ → List Row
 table_rows m zero = []
 table_rows m (suc k) = table_rows m k ++ table_row m k ∷ []
 
-abbrev state_aims : Arena → ℕ → ℕ → List ℕ
+abbrev pub state_aims : Arena → ℕ → ℕ → List ℕ
 state_aims m s zero = []
 state_aims m s (suc i) = state_aims m s i ++ aim m s i ∷ []
 
@@ -38,7 +39,7 @@ abbrev table_aims : Arena → ℕ → List ℕ
 table_aims m zero = []
 table_aims m (suc k) = table_aims m k ++ state_aims m k (moves m k)
 
-state_aims_long : (m : Arena) (s i : ℕ) → length (state_aims m s i) ≡ i
+pub state_aims_long : (m : Arena) (s i : ℕ) → length (state_aims m s i) ≡ i
 state_aims_long m s zero = refl
 state_aims_long m s (suc i) = length_push (state_aims m s i) (aim m s i) ∙ omega (arith, state_aims_long m s i)
 
@@ -52,20 +53,33 @@ table_rows_long : (m : Arena) (k : ℕ) → length (table_rows m k) ≡ k
 table_rows_long m zero = refl
 table_rows_long m (suc k) = length_push (table_rows m k) (table_row m k) ∙ omega (arith, table_rows_long m k)
 
+-- an arrow of a state
+pub aim_there : (m : Arena) (s k i : ℕ) → i < k → get_or (state_aims m s k) i 0 ≡ aim m s i
+aim_there m s zero i lt = absurd (omega arith)
+aim_there m s (suc k) i lt =
+    elim (cases_eq i k) [
+      | inl e ↦ rw e (get_or_push (state_aims m s k) (aim m s k) 0 k (state_aims_long m s k))
+      | inr ne ↦
+          get_or_append_left (state_aims m s k) (aim m s k ∷ []) 0 i (rw (state_aims_long m s k) (omega arith)) ∙ aim_there m s k i (omega arith)
+    ]
+
 -- an arrow
 arrow_back : (n at v : ℕ) (z : List ℕ) → v < n → arrow_in n at (numbered 3 v ++ z) ≡ Ok (record { what = v; left = z })
 arrow_back n at v z lt = rw (two_back v, lt-leb n v lt) refl
 
+-- the arrows of a state, from a list of them
+pub aims_bytes : (m : Arena) (s i : ℕ) → arrows_bytes m s i ≡ flat_map (numbered 3) (state_aims m s i)
+aims_bytes m s zero = refl
+aims_bytes m s (suc i) =
+    ap (λ z. z ++ numbered 3 (aim m s i)) (aims_bytes m s i)
+    ∙ flat_map_more (numbered 3) [] (state_aims m s i) (aim m s i)
+
 -- the arrows of a state
-arrows_back : (m : Arena) (n at s i : ℕ) (z : List ℕ) → ((j : ℕ) → j < i → aim m s j < n) → arrows_in n i at (arrows_bytes m s i ++ z) ≡ Ok (record { aims = state_aims m s i; at = at + 3 * i; left = z })
-arrows_back m n at s zero z below = ap (λ a. Ok (record { aims = []; at = a; left = z })) (omega arith)
-arrows_back m n at s (suc i) z below =
-    let more = numbered 3 (aim m s i) in
-    let old = ap (λ bs. arrows_in n i at bs) (append_assoc (arrows_bytes m s i) more z) ∙ arrows_back m n at s i (more ++ z) (λ j lt. below j (omega arith)) in
-    let place : at + 3 * i + 3 ≡ at + 3 * suc i = omega arith in
-    after_ok (arrows_in n i at (arrows_bytes m s (suc i) ++ z)) _ (one_arrow n) old
-    ∙ (after_ok (arrow_in n (at + 3 * i) (more ++ z)) _ _ (arrow_back n (at + 3 * i) (aim m s i) z (below i (omega arith)))
-    ∙ ap (λ a. Ok (record { aims = state_aims m s (suc i); at = a; left = z })) place)
+arrows_back : (m : Arena) (n at s i : ℕ) (z : List ℕ) → ((j : ℕ) → j < i → aim m s j < n) → arrows_in n i at (arrows_bytes m s i ++ z) ≡ Ok (record { items = state_aims m s i; at = at + 3 * i; left = z })
+arrows_back m n at s i z below =
+    let long = state_aims_long m s i in
+    let each : (j : ℕ) → j < length (state_aims m s i) → (at' : ℕ) (z' : List ℕ) → arrow_in n at' (numbered 3 (get_or (state_aims m s i) j 0) ++ z') ≡ Ok (record { what = get_or (state_aims m s i) j 0; left = z' }) = λ j lt at' z'. rw (aim_there m s i j (omega arith)) (arrow_back n at' (aim m s j) z' (below j (omega arith))) in
+    rw aims_bytes (several_back (arrow_in n) 3 (numbered 3) 0 (state_aims m s i) each at i z long)
 
 count_back : (c : ℕ) → 1 ≤ c → c ≤ 16 → bad_count c ≡ false
 count_back c some few = or_from _ _ (ne_eqb c 0 (λ e. omega arith)) (le-ltb 16 c few)
@@ -121,16 +135,6 @@ row_there m (suc k) s lt =
           get_or_append_left (table_rows m k) (table_row m k ∷ []) no_row s (rw (table_rows_long m k) (omega arith)) ∙ row_there m k s (omega arith)
     ]
 
--- an arrow of a state
-aim_there : (m : Arena) (s k i : ℕ) → i < k → get_or (state_aims m s k) i 0 ≡ aim m s i
-aim_there m s zero i lt = absurd (omega arith)
-aim_there m s (suc k) i lt =
-    elim (cases_eq i k) [
-      | inl e ↦ rw e (get_or_push (state_aims m s k) (aim m s k) 0 k (state_aims_long m s k))
-      | inr ne ↦
-          get_or_append_left (state_aims m s k) (aim m s k ∷ []) 0 i (rw (state_aims_long m s k) (omega arith)) ∙ aim_there m s k i (omega arith)
-    ]
-
 -- its place among all arrows
 arrow_there : (m : Arena) (k s i : ℕ) → s < k → i < moves m s → get_or (table_aims m k) (arrows_to m s + i) 0 ≡ aim m s i
 arrow_there m zero s i lt among = absurd (omega arith)
@@ -143,12 +147,6 @@ arrow_there m (suc k) s i lt among =
           let before : arrows_to m s + i < length (table_aims m k) = rw (table_aims_long m k) (omega (arith, arrows_to_grows m (suc s) k (omega arith))) in
           get_or_append_left (table_aims m k) (state_aims m k (moves m k)) 0 (arrows_to m s + i) before ∙ arrow_there m k s i (omega arith) among
     ]
-
--- the arrow of a command and an event
-aim_of : (m : Arena) (s a b : ℕ) → b < m.events s → aim m s (a * m.events s + b) ≡ m.next s a b
-aim_of m s a b lt =
-    let e = m.events s in
-    ap (λ x. m.next s x ((a * e + b) % e)) (digits_div a lt) ∙ ap (λ x. m.next s a x) (digits_mod a lt)
 
 pub grade_back : (g : ℕ) → g ≤ 2 → grade_number (numbered_grade g) ≡ g
 grade_back zero le = refl
@@ -186,10 +184,9 @@ module _ (m : Arena) (law : Lawful m) (rows : List Row) (arrows : List ℕ) (row
   arrow_alike s a b s< a< b< =
       let n = m.states in
       let there = rows_are s s< in
-      let up : a * m.events s + m.events s ≤ moves m s = rw (← suc-mul) (mul-le-mul_right (m.events s) a<) in
       own_arrow n rows arrows s a b s< (rw there a<) (rw there b<)
       ∙ (ap (λ r. get_or arrows (r.first + (a * r.events + b)) 0) there
-      ∙ (arrows_are s (a * m.events s + b) s< (omega arith) ∙ aim_of m s a b b<))
+      ∙ (arrows_are s (a * m.events s + b) s< (arrow_among m s a b a< b<) ∙ aim_of m s a b b<))
 
   next_alike : (s a b : ℕ) → again.next s a b ≡ m.next s a b
   next_alike s a b =
@@ -237,8 +234,8 @@ table_trip m law states arrows =
     }
 
 -- also from the buffer that they were written into
-pub written_back : {before after : List ℕ} {end : ℕ} (m : Arena) (room : ℕ) → Lawful m → table_long m ≤ room → m.states ≤ 1024 → arrows_to m m.states ≤ 16384 → room ≡ length before → BytesDone (table_answer m room) before end after → ReadBack m (take end after)
-written_back {before} {after} {end} m room law fits states arrows room_is d =
-    let e = table_fits m room fits states arrows in
-    let same : take end after ≡ table_bytes m = bytes_there (table_answer m room) (table_bytes m) e (omega (arith, table_bytes_long m)) d in
-    rw same (table_trip m law states arrows)
+pub written_back : {r end : ℕ} {last after : List ℕ} (m : Arena) (before : List ℕ) → Lawful m → table_long m ≤ length before → m.states ≤ 1024 → arrows_to m m.states ≤ 16384 → BytesDone (table_answer m (length before)) before end after → r ≡ end → last ≡ after → ReadBack m (take r last)
+written_back {r} {end} {last} {after} m before law fits states arrows d r_is last_is =
+    let e = table_fits m (length before) fits states arrows in
+    let same : take end after ≡ table_bytes m = bytes_there (table_answer m (length before)) (table_bytes m) e (omega (arith, table_bytes_long m)) d in
+    rw (r_is, last_is, same) (table_trip m law states arrows)

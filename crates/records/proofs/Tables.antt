@@ -1,5 +1,5 @@
 -- The whole scan, and the two scans of reading.
-use Rattle.std.proofs.Common.{◌≡◌, ℕ, ◌<◌, ◌≤◌, true, ltb, List, length, IfOk, Ok, Err, Result, refl, ap, ◌∙◌, arith}
+use Rattle.std.proofs.Common.{◌≡◌, ℕ, ◌<◌, ◌≤◌, true, ltb, List, length, IfOk, Ok, Err, Result, sym, refl, ap, ◌∙◌, arith}
 use Rattle.std.proofs.lemmas.Bool.{le-ltb, cond-false}
 use Rattle.site.specs.Refusals.{answered}
 use Rattle.site.specs.declared.faults.Fault.{Fault}
@@ -7,8 +7,9 @@ use Rattle.site.specs.declared.sheets.Row.{Row}
 use Rattle.records.specs.TableBytes.{Read, head_in, states_in, ended, table_in}
 use Rattle.records.specs.TableRead.{table_read, fitted, sized, rows_after, arrows_after}
 use Rattle.records.specs.Scanning.{StatesDone, TableDone, Scanned}
+use Rattle.records.specs.declared.unread.Unread.{Unread}
 use Rattle.records.specs.declared.table_size.TableSize.{TableSize}
-use Rattle.records.proofs.Answered.{after_ok}
+use Rattle.records.proofs.Answered.{never, after_ok}
 use Rattle.records.proofs.Sound.{table_sound}
 use Rattle.site.specs.Tables.{fair, table}
 use Rattle.std.specs.List.{AllByRecursion as All}
@@ -16,12 +17,12 @@ use Rattle.records.specs.TableWritten.{table_bytes}
 use Rattle.records.proofs.TableSpelled.{table_spelled}
 
 -- the head and all states were read, and nothing is left
-pub scan_done : {bs body left : List ℕ} {old_rows rows : List Row} {old_arrows arrows : List ℕ} {n total at : ℕ} → head_in bs ≡ Ok (record { what = n; left = body }) → StatesDone n body old_rows old_arrows n total at left rows arrows → length left ≤ 0 → TableDone bs old_rows old_arrows (record { states = n; arrows = total }) rows arrows
-scan_done {bs} {body} {left} {old_rows} {rows} {old_arrows} {arrows} {n} {total} {at} h d none =
-    let found : Read = record { rows = d.rows; arrows = d.arrows; at = at; left = left } in
+pub scan_done : {bs body : List ℕ} {end : Unread} {old_rows rows : List Row} {old_arrows arrows : List ℕ} {n total : ℕ} → head_in bs ≡ Ok (record { what = n; left = body }) → StatesDone n body old_rows old_arrows n total end rows arrows → length end.bytes.now ≤ 0 → TableDone bs old_rows old_arrows (record { states = n; arrows = total }) rows arrows
+scan_done {bs} {body} {end} {old_rows} {rows} {old_arrows} {arrows} {n} {total} h d none =
+    let found : Read = record { rows = d.rows; arrows = d.arrows; at = end.at; left = end.bytes.now } in
     record {
       found = found;
-      read = after_ok (head_in bs) _ _ h ∙ (after_ok (states_in n n body) found ended d.read ∙ cond-false (ltb 0 (length left)) _ _ (le-ltb 0 (length left) none));
+      read = after_ok (head_in bs) _ _ h ∙ (after_ok (states_in n n body) found ended d.read ∙ cond-false (ltb 0 (length end.bytes.now)) _ _ (le-ltb 0 (length end.bytes.now) none));
       measures = rw (d.many_rows, d.many_arrows) refl;
       row_sheet = d.row_sheet;
       arrow_sheet = d.arrow_sheet;
@@ -55,4 +56,4 @@ second_scan {bs} {old_rows} {none_rows} {none_rows'} {old_arrows} {none_arrows} 
       fair_sheets = rw (s.measures, s.row_sheet, s.arrow_sheet) (table_sound bs s.found old_rows old_arrows s.read rows_room arrows_room);
       trip = rw (s.measures, s.row_sheet, s.arrow_sheet) (table_spelled bs s.found old_rows old_arrows h s.read rows_room arrows_room);
     }
-second_scan (Err f) rows arrows h d le le' s = let z : ◌≡◌ {A = ℕ} 0 1 = cc in absurd (omega arith)
+second_scan (Err f) rows arrows h d le le' s = never (sym s ∙ d.read)

@@ -6,7 +6,8 @@ use Rattle.site.specs.Refusals.{Refusal, refuse, unless, and_then}
 use Rattle.checker.specs.declared.leaves.Leaf.{Leaf}
 use Rattle.checker.specs.declared.leaves.Leaf.TheVariants.{Covered, Open}
 use Rattle.records.specs.Repeated.{repeated}
-use Rattle.records.specs.TableBytes.{two_bytes, Found, of_kind}
+use Rattle.records.specs.TableBytes.{two_bytes, of_kind}
+use Rattle.records.specs.Taken.{Found, Several, several_in}
 
 -- the head's body, the number of states in two bytes: that of the site (else 3). What is left comes after it
 abbrev pub book_head_body : ℕ → List ℕ → Result (List ℕ) Refusal
@@ -58,21 +59,9 @@ reply_body at (b ∷ left) = Ok (record { what = b; left = left })
 abbrev pub reply_in : ℕ → List ℕ → Result (Found ℕ) Refusal
 reply_in at = of_kind 20 at (reply_body at)
 
--- replies that were read, the offset after them, and the bytes that are left
-pub record Replies : Type 0 where
-  pub events : List ℕ
-  pub at : ℕ
-  pub left : List ℕ
-
--- one reply more
-abbrev pub one_reply : Replies → Result Replies Refusal
-one_reply rd =
-    and_then (reply_in rd.at rd.left) (λ reply.
-    Ok (record { events = rd.events ++ reply.what ∷ []; at = rd.at + 2; left = reply.left }))
-
--- k replies, from the offset `at` on
-abbrev pub replies_in : ℕ → ℕ → List ℕ → Result Replies Refusal
-replies_in k at bs = repeated one_reply k (record { events = []; at = at; left = bs })
+-- k replies, from the offset `at` on, of two bytes each
+abbrev pub replies_in : ℕ → ℕ → List ℕ → Result (Several ℕ) Refusal
+replies_in k at bs = several_in reply_in 2 k at bs
 
 -- what was read of a book: its leaves and the replies of each state, the offset after them, and the bytes
 -- that are left
@@ -87,7 +76,7 @@ abbrev pub one_leaf : Arena → BookRead → Result BookRead Refusal
 one_leaf m rd =
     and_then (leaf_in rd.at rd.left) (λ leaf.
     and_then (replies_in (replies_due leaf.what (m.commands (length rd.leaves))) (rd.at + leaf_width leaf.what) leaf.left) (λ more.
-    Ok (record { leaves = rd.leaves ++ leaf.what ∷ []; replies = rd.replies ++ more.events ∷ []; at = more.at; left = more.left })))
+    Ok (record { leaves = rd.leaves ++ leaf.what ∷ []; replies = rd.replies ++ more.items ∷ []; at = more.at; left = more.left })))
 
 -- the first k states, from the bytes after the head
 abbrev pub leaves_in : Arena → ℕ → List ℕ → Result BookRead Refusal

@@ -1,31 +1,22 @@
 -- What the scan of a book's bytes has done so far: what was read, and that it lies on the slices.
-use Rattle.std.specs.Prelude.{◌≡◌, ℕ, ◌+◌, ◌≤◌, List, length, Ok, Err, Result}
+use Rattle.std.specs.Prelude.{◌≡◌, ℕ, List, length, Ok, Err, Result}
 use Rattle.site.specs.Arena.{Arena}
 use Rattle.site.specs.Laid.{laid}
 use Rattle.site.specs.Refusals.{told}
 use Rattle.site.specs.declared.faults.Fault.{Fault}
 use Rattle.checker.specs.declared.leaves.Leaf.{Leaf}
-use Rattle.records.specs.BookBytes.{replies_in, BookRead, leaves_in, book_in}
+use Rattle.records.specs.BookBytes.{BookRead, leaves_in, book_in}
 use Rattle.records.specs.BookRead.{spread}
+use Rattle.records.specs.declared.unread.Unread.{Unread}
 
--- k replies were read from the bytes bs at the offset `start`, as far as the offset `at` with `left` to come,
--- and are laid over the sheet from `first` on
-pub record RepliesDone (first start : ℕ) (bs before : List ℕ) (k at : ℕ) (left after : List ℕ) : Type 0 where
-  pub events : List ℕ
-  pub many : length events ≡ k
-  pub read : replies_in k start bs ≡ Ok (record { events = events; at = at; left = left })
-  pub within : at + length left ≤ start + length bs
-  pub sheet : after ≡ laid first events before
-
--- the leaves of k states were read from the bytes bs after the head, as far as the offset `at` with `left` to
--- come, and lie with their replies on both slices
-pub record LeavesDone (m : Arena) (bs : List ℕ) (old_leaves : List Leaf) (old_replies : List ℕ) (k at : ℕ) (left : List ℕ) (new_leaves : List Leaf) (new_replies : List ℕ) : Type 0 where
+-- the leaves of k states were read from the bytes bs after the head, with `end` to come after them, and lie
+-- with their replies on both slices
+pub record LeavesDone (m : Arena) (bs : List ℕ) (old_leaves : List Leaf) (old_replies : List ℕ) (k : ℕ) (end : Unread) (new_leaves : List Leaf) (new_replies : List ℕ) : Type 0 where
   pub leaves : List Leaf
   pub replies : List (List ℕ)
   pub many_leaves : length leaves ≡ k
   pub many_replies : length replies ≡ k
-  pub read : leaves_in m k bs ≡ Ok (record { leaves = leaves; replies = replies; at = at; left = left })
-  pub within : at + length left ≤ 3 + length bs
+  pub read : leaves_in m k bs ≡ Ok (record { leaves = leaves; replies = replies; at = end.at; left = end.bytes.now })
   pub leaf_sheet : new_leaves ≡ laid 0 leaves old_leaves
   pub reply_sheet : new_replies ≡ spread 0 replies old_replies
 

@@ -5,10 +5,12 @@ pub mod BookTrip
 pub mod BookWritten
 pub mod Buffers
 pub mod Lines
-pub mod Puts
+pub mod Pens
+pub mod Readings
 pub mod Repeated
 pub mod Scanning
 pub mod TableBytes
 pub mod TableRead
 pub mod TableTrip
 pub mod TableWritten
+pub mod Taken

@@ -1,32 +1,23 @@
 -- What the scan of a table's bytes has done so far: what was read, and that it lies on the sheets.
-use Rattle.std.specs.Prelude.{◌≡◌, ℕ, ◌+◌, ◌≤◌, List, length, Ok, Err, Result}
+use Rattle.std.specs.Prelude.{◌≡◌, ℕ, ◌≤◌, List, length, Ok, Err, Result}
 use Rattle.site.specs.Laid.{laid}
 use Rattle.site.specs.Refusals.{told}
 use Rattle.site.specs.declared.faults.Fault.{Fault}
 use Rattle.site.specs.declared.sheets.Row.{Row}
-use Rattle.records.specs.TableBytes.{arrows_in, Read, states_in, table_in}
+use Rattle.records.specs.TableBytes.{Read, states_in, table_in}
 use Rattle.records.specs.TableRead.{size_of}
+use Rattle.records.specs.declared.unread.Unread.{Unread}
 use Rattle.records.specs.declared.table_size.TableSize.{TableSize}
 
--- k arrows were read from the bytes bs at the offset `start`, as far as the offset `at` with `left` to
--- come, and are laid over the sheet from `first` on
-pub record ArrowsDone (n first start : ℕ) (bs before : List ℕ) (k at : ℕ) (left after : List ℕ) : Type 0 where
-  pub aims : List ℕ
-  pub many : length aims ≡ k
-  pub read : arrows_in n k start bs ≡ Ok (record { aims = aims; at = at; left = left })
-  pub within : at + length left ≤ start + length bs
-  pub sheet : after ≡ laid first aims before
-
--- k of n states were read from the bytes bs after the head, with `total` arrows, as far as the offset `at`
--- with `left` to come, and are laid over both sheets from their fronts on
-pub record StatesDone (n : ℕ) (bs : List ℕ) (old_rows : List Row) (old_arrows : List ℕ) (k total at : ℕ) (left : List ℕ) (new_rows : List Row) (new_arrows : List ℕ) : Type 0 where
+-- k of n states were read from the bytes bs after the head, with `total` arrows and `end` to come
+-- after them, and are laid over both sheets from their fronts on
+pub record StatesDone (n : ℕ) (bs : List ℕ) (old_rows : List Row) (old_arrows : List ℕ) (k total : ℕ) (end : Unread) (new_rows : List Row) (new_arrows : List ℕ) : Type 0 where
   pub rows : List Row
   pub arrows : List ℕ
   pub many_rows : length rows ≡ k
   pub many_arrows : length arrows ≡ total
   pub few_arrows : total ≤ 16384
-  pub read : states_in n k bs ≡ Ok (record { rows = rows; arrows = arrows; at = at; left = left })
-  pub within : at + length left ≤ 3 + length bs
+  pub read : states_in n k bs ≡ Ok (record { rows = rows; arrows = arrows; at = end.at; left = end.bytes.now })
   pub row_sheet : new_rows ≡ laid 0 rows old_rows
   pub arrow_sheet : new_arrows ≡ laid 0 arrows old_arrows
 

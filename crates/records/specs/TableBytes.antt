@@ -5,15 +5,11 @@ use Rattle.site.specs.declared.grades.Grade.{Grade}
 use Rattle.site.specs.declared.grades.Grade.TheVariants.{Confirmed, Doubted, Ordinary}
 use Rattle.site.specs.declared.sheets.Row.{Row}
 use Rattle.records.specs.Repeated.{repeated}
+use Rattle.records.specs.Taken.{Found, Several, several_in}
 
 -- a number in two bytes, the high byte first
 abbrev pub two_bytes : ℕ → ℕ → ℕ
 two_bytes hi lo = 256 * hi + lo
-
--- what a record says, and the bytes that are left after it
-pub record Found (T : Type 0) : Type 0 where
-  pub what : T
-  pub left : List ℕ
 
 -- a record that begins at the offset `at` with the byte `kind`: where no byte is left it is refused by 1,
 -- where the byte is another by 2, and else its body is read
@@ -73,21 +69,9 @@ arrow_body n at (hi ∷ (lo ∷ left)) =
 abbrev pub arrow_in : ℕ → ℕ → List ℕ → Result (Found ℕ) Refusal
 arrow_in n at = of_kind 3 at (arrow_body n at)
 
--- arrows that were read, the offset after them, and the bytes that are left
-pub record Arrows : Type 0 where
-  pub aims : List ℕ
-  pub at : ℕ
-  pub left : List ℕ
-
--- one arrow more
-abbrev pub one_arrow : ℕ → Arrows → Result Arrows Refusal
-one_arrow n rd =
-    and_then (arrow_in n rd.at rd.left) (λ arrow.
-    Ok (record { aims = rd.aims ++ arrow.what ∷ []; at = rd.at + 3; left = arrow.left }))
-
--- k arrows, from the offset `at` on
-abbrev pub arrows_in : ℕ → ℕ → ℕ → List ℕ → Result Arrows Refusal
-arrows_in n k at bs = repeated (one_arrow n) k (record { aims = []; at = at; left = bs })
+-- k arrows, from the offset `at` on, of three bytes each
+abbrev pub arrows_in : ℕ → ℕ → ℕ → List ℕ → Result (Several ℕ) Refusal
+arrows_in n k at bs = several_in (arrow_in n) 3 k at bs
 
 -- what was read of a table: its rows and its arrows, the offset after them, and the bytes that are left
 pub record Read : Type 0 where
@@ -101,7 +85,7 @@ abbrev pub one_state : ℕ → Read → Result Read Refusal
 one_state n rd =
     and_then (row_in rd.at (length rd.arrows) rd.left) (λ row.
     and_then (arrows_in n (row.what.commands * row.what.events) (rd.at + 4) row.left) (λ more.
-    Ok (record { rows = rd.rows ++ row.what ∷ []; arrows = rd.arrows ++ more.aims; at = more.at; left = more.left })))
+    Ok (record { rows = rd.rows ++ row.what ∷ []; arrows = rd.arrows ++ more.items; at = more.at; left = more.left })))
 
 -- k of n states, from the bytes after the head
 abbrev pub states_in : ℕ → ℕ → List ℕ → Result Read Refusal

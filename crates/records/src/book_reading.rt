@@ -6,7 +6,7 @@ ghost use Rattle.records.specs.BookWritten.{book_bytes};
 
 use crate::book_scanning::scan_book;
 use checker::leaves::{Leaf, PLACES};
-use site::faults::Fault;
+use site::faults::{Fault, enough};
 use site::interface::Site;
 
 // Reads a site's book onto leaves and replies. The bytes are scanned twice: everything is tested before the
@@ -23,13 +23,7 @@ pub fn read_book<S: Site>(
     ensures trip { OnOk result (book_bytes (S.Site.arena site.now) leaves.new replies.new ≡ bytes.now) }
 {
     let states = scan_book(site, bytes, &mut [], &mut [])?;
-    if leaves.len() < states {
-        return Err(Fault::TooShort { needed: states });
-    }
-    if replies.len() < PLACES * states {
-        return Err(Fault::TooShort {
-            needed: PLACES * states,
-        });
-    }
+    enough(leaves.len(), states)?;
+    enough(replies.len(), PLACES * states)?;
     scan_book(site, bytes, leaves, replies)
 }

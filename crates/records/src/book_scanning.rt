@@ -1,84 +1,38 @@
 // The scan of a book's bytes: it lays what it reads over the slices as far as there is room.
-ghost use Rattle.std.specs.Prelude.{◌≡◌, ◌+◌, ◌*◌, ◌^◌, ◌<◌, length, Ok, Err};
+ghost use Rattle.std.specs.Prelude.{◌≡◌, MatchResult, Err};
 ghost use Rattle.site.specs.Refusals.{told};
-ghost use Rattle.records.specs.BookBytes.{leaf_width, replies_due, replies_in, leaves_in};
-ghost use Rattle.records.specs.BookScanning.{RepliesDone, LeavesDone, BookScanned};
+ghost use Rattle.records.specs.BookBytes.{leaves_in};
+ghost use Rattle.records.specs.BookScanning.{LeavesDone, BookScanned};
 
-use crate::book_records::{read_book_head, read_leaf, read_reply};
+use crate::book_records::{Reply, read_book_head, read_leaf};
+use crate::laying::lay;
+use crate::leaf_sizes::replies_due;
+use crate::several::read_several;
+use crate::unread::Unread;
 use checker::leaves::{Leaf, PLACES};
 use site::faults::Fault;
 use site::interface::Site;
 
-// `count` replies, the first of which has the place `first`; the offset and the bytes after them.
-fn read_replies<'a>(
-    count: usize,
-    start: usize,
-    bytes: &'a [u8],
-    first: usize,
-    replies: &mut [u8],
-) -> Result<(usize, &'a [u8]), Fault>
-    requires offsets { start + length bytes.now < 2 ^ 64 }
-    requires numbers { first + count < 2 ^ 64 }
-    ensures { elim result [ Ok p ↦ RepliesDone first start bytes.now replies.old count p.0 p.1.now replies.new | Err f ↦ replies_in count start bytes.now ≡ Err (told f) ] }
-{
-    let mut at = start;
-    let mut left = bytes;
-    for i in 0..count {
-        let (event, rest) = read_reply(at, left)?;
-        let place = first + i;
-        if place < replies.len() {
-            replies[place] = event;
-        }
-        at += 2;
-        left = rest;
-    }
-    Ok((at, left))
-}
-
-// How many bytes the record of a leaf takes.
-fn width_of(leaf: Leaf) -> usize
-    ensures { result ≡ leaf_width leaf }
-{
-    match leaf {
-        Leaf::Covered { .. } => 4,
-        Leaf::Open { .. } => 5,
-    }
-}
-
-// How many replies follow a leaf.
-fn replies_due(leaf: Leaf, commands: usize) -> usize
-    ensures { result ≡ replies_due leaf commands }
-{
-    match leaf {
-        Leaf::Covered { .. } => 0,
-        Leaf::Open { .. } => commands,
-    }
-}
-
-// The leaves of all states with their replies; the offset and the bytes after them.
+// The leaves of all states with their replies; what is left after them.
 fn read_leaves<'a, S: Site>(
     site: &S,
-    bytes: &'a [u8],
+    from: Unread<'a>,
     leaves: &mut [Leaf],
     replies: &mut [u8],
-) -> Result<(usize, &'a [u8]), Fault>
-    requires { 3 + length bytes.now < 2 ^ 64 }
-    ensures { elim result [ Ok p ↦ LeavesDone (S.Site.arena site.now) bytes.now leaves.old replies.old (S.Site.arena site.now).states p.0 p.1.now leaves.new replies.new | Err f ↦ leaves_in (S.Site.arena site.now) (S.Site.arena site.now).states bytes.now ≡ Err (told f) ] }
+) -> Result<Unread<'a>, Fault>
+    requires { from.at ≡ 3 }
+    ensures { MatchResult result
+        (λ end. LeavesDone (S.Site.arena site.now) from.entry.bytes.now leaves.old replies.old (S.Site.arena site.now).states end leaves.new replies.new)
+        (λ f. leaves_in (S.Site.arena site.now) (S.Site.arena site.now).states from.entry.bytes.now ≡ Err (told f)) }
 {
-    let mut at = 3;
-    let mut left = bytes;
+    let mut unread = from;
     for state in 0..site.states() {
-        let (leaf, body) = read_leaf(at, left)?;
+        let (leaf, body) = read_leaf(unread)?;
         let count = replies_due(leaf, site.commands(state));
-        let start = at + width_of(leaf);
-        let (end, rest) = read_replies(count, start, body, PLACES * state, replies)?;
-        if state < leaves.len() {
-            leaves[state] = leaf;
-        }
-        at = end;
-        left = rest;
+        unread = read_several(&Reply, count, body, PLACES * state, replies)?;
+        lay(leaf, state, leaves);
     }
-    Ok((at, left))
+    Ok(unread)
 }
 
 // A whole book, and nothing after it. A refusal may leave a part of it on the slices.
@@ -91,10 +45,10 @@ pub(crate) fn scan_book<S: Site>(
     ensures { BookScanned (S.Site.arena site.now) bytes.now leaves.old replies.old result leaves.new replies.new }
 {
     let states = site.states();
-    let body = read_book_head(states, bytes)?;
-    let (at, left) = read_leaves(site, body, leaves, replies)?;
-    if left.len() > 0 {
-        return Err(Fault::SurplusBytes { at });
+    let from = read_book_head(states, bytes)?;
+    let left = read_leaves(site, from, leaves, replies)?;
+    if !left.bytes.is_empty() {
+        return Err(Fault::SurplusBytes { at: left.at });
     }
     Ok(states)
 }

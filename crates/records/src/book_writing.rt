@@ -7,9 +7,9 @@ ghost use Rattle.records.specs.Buffers.{counted, buffer_after};
 
 use crate::book_puts::{leaves_room, put_leaves};
 use crate::kinds::BOOK;
-use crate::table_puts::put_numbered;
+use crate::pen::Pen;
 use checker::leaves::{Leaf, PLACES};
-use site::faults::Fault;
+use site::faults::{Fault, enough};
 use site::interface::Site;
 
 // The book of a site, onto the buffer's front; how many bytes it has. Any leaves and replies are written.
@@ -24,18 +24,12 @@ pub fn write_book<S: Site>(
     ensures trip { IfOk result (λ n. BookBack (S.Site.arena site.now) leaves.now replies.now (take n buffer.new)) }
 {
     let states = site.states();
-    if leaves.len() < states {
-        return Err(Fault::TooShort { needed: states });
-    }
-    if replies.len() < PLACES * states {
-        return Err(Fault::TooShort {
-            needed: PLACES * states,
-        });
-    }
+    enough(leaves.len(), states)?;
+    enough(replies.len(), PLACES * states)?;
     let needed = 3 + leaves_room(site, leaves);
-    if buffer.len() < needed {
-        return Err(Fault::TooShort { needed });
-    }
-    let at = put_numbered(BOOK, states, 0, buffer);
-    Ok(put_leaves(site, leaves, replies, at, buffer))
+    enough(buffer.len(), needed)?;
+    let mut pen = Pen::new(buffer);
+    pen.numbered(BOOK, states);
+    put_leaves(site, leaves, replies, &mut pen);
+    Ok(pen.written())
 }

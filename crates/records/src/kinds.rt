@@ -1,4 +1,4 @@
-// The first byte of each kind of record, and how large a table of bytes can be.
+// The first byte of each kind of record.
 
 // A table: its number of states, the row of a state, and an arrow.
 pub(crate) const TABLE: u8 = 0x01;
@@ -15,7 +15,3 @@ pub(crate) const COVERED: u8 = 0x12;
 pub(crate) const OPEN: u8 = 0x13;
 
 pub(crate) const REPLY: u8 = 0x14;
-
-pub(crate) const MOST_STATES: usize = 1024;
-
-pub(crate) const MOST_ARROWS: usize = 16384;

@@ -5,13 +5,14 @@ ghost use Rattle.records.specs.Buffers.{counted, buffer_after};
 ghost use Rattle.records.specs.Lines.{head_answer, state_answer};
 
 use crate::leaf_line::put_leaf;
-use crate::puts::{put_field, put_number, put_text};
+use crate::own_replies::own_replies;
+use crate::pen::Pen;
 use checker::leaves::{Leaf, PLACES};
-use site::faults::Fault;
+use site::faults::{Fault, enough};
 use site::interface::Site;
 
 // The room that every line has.
-const LINE_ROOM: usize = 128;
+pub const LINE_ROOM: usize = 128;
 
 // The first line, into the buffer's front; how many bytes it has.
 pub fn head_line(
@@ -24,13 +25,13 @@ pub fn head_line(
     ensures room { IfOk result (λ n. n ≤ 128) }
     ensures line { buffer.new ≡ buffer_after (head_answer states covered «open» (length buffer.old)) buffer.old }
 {
-    if buffer.len() < LINE_ROOM {
-        return Err(Fault::TooShort { needed: LINE_ROOM });
-    }
-    let after_states = put_field(b"states ", states, 0, buffer);
-    let after_covered = put_field(b" covered ", covered, after_states, buffer);
-    let after_open = put_field(b" open ", open, after_covered, buffer);
-    Ok(put_text(b"\n", after_open, buffer))
+    enough(buffer.len(), LINE_ROOM)?;
+    let mut pen = Pen::new(buffer);
+    pen.field(b"states ", states);
+    pen.field(b" covered ", covered);
+    pen.field(b" open ", open);
+    pen.text(b"\n");
+    Ok(pen.written())
 }
 
 // The line of a state, into the buffer's front; how many bytes it has.
@@ -46,23 +47,15 @@ pub fn state_line<S: Site>(
     ensures line { buffer.new ≡ buffer_after (state_answer (S.Site.arena site.now) leaves.now replies.now state (length buffer.old)) buffer.old }
 {
     let states = site.states();
-    if leaves.len() < states {
-        return Err(Fault::TooShort { needed: states });
-    }
-    if replies.len() < PLACES * states {
-        return Err(Fault::TooShort {
-            needed: PLACES * states,
-        });
-    }
-    if buffer.len() < LINE_ROOM {
-        return Err(Fault::TooShort { needed: LINE_ROOM });
-    }
+    enough(leaves.len(), states)?;
+    enough(replies.len(), PLACES * states)?;
+    enough(buffer.len(), LINE_ROOM)?;
     if states <= state {
         return Err(Fault::NoState { state });
     }
-    let first = PLACES * state;
-    let own = &replies[first..first + site.commands(state)];
-    let after_state = put_number(state, 0, buffer);
-    let after_leaf = put_leaf(leaves[state], own, after_state, buffer);
-    Ok(put_text(b"\n", after_leaf, buffer))
+    let mut pen = Pen::new(buffer);
+    pen.number(state);
+    put_leaf(leaves[state], own_replies(site, replies, state), &mut pen);
+    pen.text(b"\n");
+    Ok(pen.written())
 }

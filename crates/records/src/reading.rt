@@ -7,7 +7,7 @@ ghost use Rattle.records.specs.TableWritten.{table_bytes};
 
 use crate::scanning::scan;
 use crate::table_size::TableSize;
-use site::faults::Fault;
+use site::faults::{Fault, enough};
 use site::sheets::Row;
 
 // Reads a table onto the fronts of two sheets. The bytes are scanned twice: everything is tested before the
@@ -20,15 +20,7 @@ pub fn read_table(bytes: &[u8], rows: &mut [Row], arrows: &mut [u16]) -> Result<
     ensures trip { IfOk result (λ size. table_bytes (table size.states rows.new arrows.new) ≡ bytes.now) }
 {
     let size = scan(bytes, &mut [], &mut [])?;
-    if rows.len() < size.states {
-        return Err(Fault::TooShort {
-            needed: size.states,
-        });
-    }
-    if arrows.len() < size.arrows {
-        return Err(Fault::TooShort {
-            needed: size.arrows,
-        });
-    }
+    enough(rows.len(), size.states)?;
+    enough(arrows.len(), size.arrows)?;
     scan(bytes, rows, arrows)
 }

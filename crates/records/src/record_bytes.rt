@@ -1,64 +1,64 @@
 // The three kinds of record of a table: each reader takes one off the front and hands on what is left.
-ghost use Rattle.std.specs.Prelude.{◌≡◌, ◌+◌, ◌*◌, ◌≤◌, Ok, Err};
+ghost use Rattle.std.specs.Prelude.{◌≡◌, ◌+◌, ◌*◌, ◌≤◌, MatchResult, Ok, Err};
 ghost use Rattle.site.specs.Refusals.{told, answered};
-ghost use Rattle.records.specs.TableBytes.{two_bytes, head_in, numbered_grade, bad_count, row_of, row_in, arrow_in};
+ghost use Rattle.records.specs.Readings.{Reads};
+ghost use Rattle.records.specs.TableBytes.{head_in, bad_count, row_of, row_in, arrow_in};
 
-use crate::kinds::{ARROW, MOST_ARROWS, MOST_STATES, ROW, TABLE};
+use crate::kinds::{ARROW, ROW, TABLE};
+use crate::several::Record;
+use crate::table_size::{MOST_ARROWS, MOST_STATES};
+use crate::unread::Unread;
 use site::faults::Fault;
 use site::grades::Grade;
 use site::sheets::Row;
 
 const MOST_MOVES: u8 = 16;
 
-// A number in two bytes, the high byte first.
-pub(crate) fn two_bytes(hi: u8, lo: u8) -> u16
-    ensures { result ≡ two_bytes hi lo }
-{
-    256 * hi as u16 + lo as u16
+// An arrow to one of `states` states.
+#[derive(Clone, Copy)]
+pub(crate) struct Arrow {
+    pub(crate) states: usize,
 }
 
-// An arrow to one of `states` states.
-pub(crate) fn read_arrow(states: usize, at: usize, bytes: &[u8]) -> Result<(u16, &[u8]), Fault>
-    ensures { elim result [ Ok p ↦ arrow_in states at bytes.now ≡ Ok (record { what = p.0; left = p.1.now }) | Err f ↦ arrow_in states at bytes.now ≡ Err (told f) ] }
-{
-    match bytes {
-        [ARROW, hi, lo, left @ ..] => {
-            let next = two_bytes(*hi, *lo);
-            if states <= next as usize {
-                return Err(Fault::ArrowRange { at });
+impl Record for Arrow {
+    type Item = u16;
+
+    ghost width = { 3 };
+
+    ghost taken = { λ arrow. arrow_in arrow.states };
+
+    fn read<'a>(&self, from: Unread<'a>) -> Result<(u16, Unread<'a>), Fault> {
+        let at = from.at;
+        match from.bytes {
+            [ARROW, hi, lo, bytes @ ..] => {
+                let next = u16::from_be_bytes([*hi, *lo]);
+                if self.states <= usize::from(next) {
+                    return Err(Fault::ArrowRange { at });
+                }
+                Ok((next, Unread { at: at + 3, bytes }))
             }
-            Ok((next, left))
+            [] | [ARROW, ..] => Err(Fault::BytesEnd { at }),
+            _ => Err(Fault::OtherKind { at }),
         }
-        [] | [ARROW, ..] => Err(Fault::BytesEnd { at }),
-        _ => Err(Fault::OtherKind { at }),
     }
 }
 
 // The number of states, at the very front.
-pub(crate) fn read_head(bytes: &[u8]) -> Result<(usize, &[u8]), Fault>
-    ensures { elim result [ Ok p ↦ head_in bytes.now ≡ Ok (record { what = p.0; left = p.1.now }) | Err f ↦ head_in bytes.now ≡ Err (told f) ] }
+pub(crate) fn read_head(bytes: &[u8]) -> Result<(usize, Unread<'_>), Fault>
+    ensures { MatchResult result
+        (λ p. (head_in bytes.now ≡ Ok (record { what = p.0; left = p.1.bytes.now })) × (p.1.at ≡ 3))
+        (λ f. head_in bytes.now ≡ Err (told f)) }
 {
     match bytes {
-        [TABLE, hi, lo, left @ ..] => {
-            let states = two_bytes(*hi, *lo) as usize;
+        [TABLE, hi, lo, bytes @ ..] => {
+            let states = usize::from(u16::from_be_bytes([*hi, *lo]));
             if states == 0 || states > MOST_STATES {
                 return Err(Fault::StateCount);
             }
-            Ok((states, left))
+            Ok((states, Unread { at: 3, bytes }))
         }
         [] | [TABLE, ..] => Err(Fault::BytesEnd { at: 0 }),
         _ => Err(Fault::OtherKind { at: 0 }),
-    }
-}
-
-// The grade with a number from 0 to 2.
-fn numbered_grade(number: u8) -> Grade
-    ensures { result ≡ numbered_grade number }
-{
-    match number {
-        0 => Grade::Confirmed,
-        1 => Grade::Doubted,
-        _ => Grade::Ordinary,
     }
 }
 
@@ -74,17 +74,17 @@ fn row_of(at: usize, first: usize, number: u8, commands: u8, events: u8) -> Resu
     requires { first ≤ 16384 }
     ensures { answered result ≡ row_of at first number commands events }
 {
-    if number > 2 {
+    let Ok(grade) = Grade::try_from(number) else {
         return Err(Fault::GradeRange { at });
-    }
+    };
     if bad_count(commands) || bad_count(events) {
         return Err(Fault::MoveCount { at });
     }
-    if first + commands as usize * events as usize > MOST_ARROWS {
+    if first + usize::from(commands) * usize::from(events) > MOST_ARROWS {
         return Err(Fault::ArrowCount { at });
     }
     Ok(Row {
-        grade: numbered_grade(number),
+        grade,
         commands,
         events,
         first: first as u32,
@@ -92,14 +92,15 @@ fn row_of(at: usize, first: usize, number: u8, commands: u8, events: u8) -> Resu
 }
 
 // A row, after `first` arrows.
-pub(crate) fn read_row(at: usize, first: usize, bytes: &[u8]) -> Result<(Row, &[u8]), Fault>
+pub(crate) fn read_row(from: Unread<'_>, first: usize) -> Result<(Row, Unread<'_>), Fault>
     requires { first ≤ 16384 }
-    ensures { elim result [ Ok p ↦ row_in at first bytes.now ≡ Ok (record { what = p.0; left = p.1.now }) | Err f ↦ row_in at first bytes.now ≡ Err (told f) ] }
+    ensures { Reads (λ _. 4) (λ at. row_in at first) from.entry result }
 {
-    match bytes {
-        [ROW, number, commands, events, left @ ..] => {
+    let at = from.at;
+    match from.bytes {
+        [ROW, number, commands, events, bytes @ ..] => {
             let row = row_of(at, first, *number, *commands, *events)?;
-            Ok((row, left))
+            Ok((row, Unread { at: at + 4, bytes }))
         }
         [] | [ROW, ..] => Err(Fault::BytesEnd { at }),
         _ => Err(Fault::OtherKind { at }),

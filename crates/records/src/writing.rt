@@ -5,9 +5,11 @@ ghost use Rattle.records.specs.Buffers.{counted, buffer_after};
 ghost use Rattle.records.specs.TableTrip.{ReadBack};
 ghost use Rattle.records.specs.TableWritten.{table_answer};
 
-use crate::kinds::{MOST_ARROWS, MOST_STATES, TABLE};
-use crate::table_puts::{count_arrows, put_numbered, put_states};
-use site::faults::Fault;
+use crate::kinds::TABLE;
+use crate::pen::Pen;
+use crate::table_puts::{count_arrows, put_states};
+use crate::table_size::{MOST_ARROWS, MOST_STATES};
+use site::faults::{Fault, enough};
 use site::interface::Site;
 
 // The table of a site, onto the buffer's front; how many bytes it has.
@@ -19,12 +21,12 @@ pub fn write_table<S: Site>(site: &S, buffer: &mut [u8]) -> Result<usize, Fault>
     let states = site.states();
     let arrows = count_arrows(site);
     let needed = 3 + 4 * states + 3 * arrows;
-    if buffer.len() < needed {
-        return Err(Fault::TooShort { needed });
-    }
+    enough(buffer.len(), needed)?;
     if states > MOST_STATES || arrows > MOST_ARROWS {
         return Err(Fault::TableSize { states });
     }
-    let at = put_numbered(TABLE, states, 0, buffer);
-    Ok(put_states(site, at, buffer))
+    let mut pen = Pen::new(buffer);
+    pen.numbered(TABLE, states);
+    put_states(site, &mut pen);
+    Ok(pen.written())
 }

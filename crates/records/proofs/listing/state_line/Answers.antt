@@ -1,43 +1,25 @@
-use Rattle.std.proofs.Common.{◌^◌, ◌<◌, ◌≤◌, length, refl, arith, rules}
-use Rattle.records.proofs.Listed.{state_put, own_are, own_few}
+use Rattle.std.proofs.Common.{length, Ok, refl, ap, ◌∙◌, arith, rules}
+use Rattle.records.proofs.Listed.{bytes_put, state_fits, state_put, rests}
 use Rattle.records.proofs.Putting.{few_digits}
 use Rattle.records.proofs.listing.state_line.Goals as goal
 
-pub overflow_add-own : goal.overflow_add-own
-overflow_add-own g c =
-    let law = g.S.Site.lawful c.args.site.now in
-    omega (arith, c.commands.ensures, law.few_commands c.args.state, law.limited, c.states-states.ensures)
-
-pub slice_bounds-own-end : goal.slice_bounds-own-end
-slice_bounds-own-end g c =
-    let law = g.S.Site.lawful c.args.site.now in
-    omega (arith, c.commands.ensures, law.few_commands c.args.state, c.states-states.ensures)
-
-pub put_number-after_state-requires : goal.put_number-after_state-requires
-put_number-after_state-requires g c =
-    let fits : c.args.state < 2 ^ 64 = search rules in
-    omega (arith, few_digits c.args.state fits)
-
-pub put_leaf-after_leaf-requires : goal.put_leaf-after_leaf-requires
-put_leaf-after_leaf-requires g c =
-    let law = g.S.Site.lawful c.args.site.now in
-    let few : c.commands.result ≤ 16 = omega (arith, c.commands.ensures, law.few_commands c.args.state) in
-    omega (arith, own_few c.args.replies.now c.args.state c.commands.result few, c.put_number-after_state.ensures.short, law.limited, c.states-states.ensures)
-
-pub put_text-requires : goal.put_text-requires
-put_text-requires g c =
-    let law = g.S.Site.lawful c.args.site.now in
-    let few : c.commands.result ≤ 16 = omega (arith, c.commands.ensures, law.few_commands c.args.state) in
-    omega (arith, own_few c.args.replies.now c.args.state c.commands.result few, c.put_leaf-after_leaf.ensures.short, c.put_number-after_state.ensures.short, law.limited, c.states-states.ensures)
+pub number-requires : goal.number-requires
+number-requires g c =
+    omega (arith, few_digits c.args.state c.ranges.state.fits, c.new-pen.ensures.front, ap length c.new-pen.ensures.holds, c.in_ok-enough-3.ensures.enough)
 
 pub returns : goal.returns
 returns g c =
     let m = g.S.Site.arena c.args.site.now in
-    let done = state_put m c.args.leaves.now c.args.replies.now c.args.state (length c.args.buffer.now) _ _ (omega (arith, c.states-states.ensures)) (omega (arith, c.states-states.ensures)) (omega arith) (omega (arith, c.states-states.ensures)) refl (own_are m c.args.replies.now c.args.state c.commands.result c.commands.ensures) c.put_number-after_state.ensures.put c.put_leaf-after_leaf.ensures.put c.put_text.ensures in
-    let law = g.S.Site.lawful c.args.site.now in
-    let few : c.commands.result ≤ 16 = omega (arith, c.commands.ensures, law.few_commands c.args.state) in
+    let leaves = c.args.leaves.now in
+    let replies = c.args.replies.now in
+    let before = c.args.buffer.now in
+    let s = c.args.state in
+    let fits = state_fits m leaves replies s (length before) (omega (arith, c.states-states.ensures, c.in_ok-enough.ensures.enough)) (omega (arith, c.states-states.ensures, c.in_ok-enough-2.ensures.enough)) (omega (arith, c.in_ok-enough-3.ensures.enough)) (omega (arith, c.states-states.ensures)) in
+    let whole = state_put m leaves replies s _ _ refl c.own_replies.ensures.own c.number.ensures.put c.put_leaf.ensures.put c.text.ensures in
+    let done = bytes_put _ _ before fits c.new-pen.ensures.front c.new-pen.ensures.holds whole in
+    let same = whole.same ∙ c.new-pen.ensures.same in
     record {
-      answer = done.answer;
-      room = omega (arith, c.put_text.ensures.ends, own_few c.args.replies.now c.args.state c.commands.result few, c.put_leaf-after_leaf.ensures.short, c.put_number-after_state.ensures.short, law.limited, c.states-states.ensures);
-      line = done.bytes;
+      answer = ap Ok c.written.ensures ∙ done.answer;
+      room = omega (arith, c.written.ensures, c.text.ensures.ends, c.own_replies.ensures.few, c.new-pen.ensures.front, c.put_leaf.ensures.short, c.number.ensures.short);
+      line = rests (search rules) done.bytes;
     }

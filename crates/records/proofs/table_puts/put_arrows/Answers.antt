@@ -1,29 +1,22 @@
-use Rattle.std.proofs.Common.{◌≡◌, ◌/◌, ◌%◌, ◌<◌, ap, ◌∙◌, arith}
-use Rattle.records.specs.TableWritten.{aim, moves}
-use Rattle.records.proofs.Listed.{put_none}
-use Rattle.records.proofs.TablePuts.{arrows_long, aim_below, arrow_put}
+use Rattle.std.proofs.Common.{◌≡◌, ◌+◌, ◌*◌, ◌∙◌, sym, zero-mul, add-one, add-suc, arith}
+use Rattle.records.specs.TableWritten.{aim}
+use Rattle.records.proofs.Putting.{put_none, put_then}
+use Rattle.records.proofs.TablePuts.{arrows_long, aim_of, arrow_among}
 use Rattle.records.proofs.table_puts.put_arrows.Goals as goal
 
-pub loop-i-init : goal.loop-i-init
-loop-i-init g c = put_none _ _
+pub loop-command-init : goal.loop-command-init
+loop-command-init g c = rw zero-mul (put_none _)
 
-pub put_numbered-at-requires : goal.put_numbered-at-requires
-put_numbered-at-requires g c =
+pub numbered-requires-clause-room : goal.numbered-requires-clause-room
+numbered-requires-clause-room g c =
     let m = g.S.Site.arena c.args.site.now in
     let s = c.args.state in
-    let i = c.loop-i.i in
-    let law = g.S.Site.lawful c.args.site.now in
-    let among : i < moves m s = rw (← c.commands.ensures, ← c.events-events.ensures) c.loop-i-test.true in
-    let leads : c.next-next.result ≡ aim m s i = c.next-next.ensures ∙ ap (λ e. m.next s (i / e) (i % e)) c.events-events.ensures in
-    record {
-      small = omega (arith, aim_below m law s i c.requires.one among, law.limited, leads);
-      room = omega (arith, c.requires.room, c.loop-i.invariant.ends, arrows_long m s i, among);
-    }
+    let i = c.loop-command.command * m.events s + c.loop-event.event in
+    omega (arith, c.requires.room, c.loop-event.invariant.ends, c.loop-event.invariant.keeps, arrows_long m s i, arrow_among m s c.loop-command.command c.loop-event.event (omega (arith, c.commands-command-end.ensures)) (omega (arith, c.events-event-end.ensures)))
 
-pub loop-i-preserved : goal.loop-i-preserved
-loop-i-preserved g c =
+pub loop-event-preserved : goal.loop-event-preserved
+loop-event-preserved g c =
     let m = g.S.Site.arena c.args.site.now in
     let s = c.args.state in
-    let i = c.loop-i.i in
-    let leads : c.next-next.result ≡ aim m s i = c.next-next.ensures ∙ ap (λ e. m.next s (i / e) (i % e)) c.events-events.ensures in
-    arrow_put m s i c.next-next.result leads c.loop-i.invariant c.put_numbered-at.ensures
+    let leads : c.next.result ≡ aim m s (c.loop-command.command * m.events s + c.loop-event.event) = c.next.ensures ∙ sym (aim_of m s c.loop-command.command c.loop-event.event (omega (arith, c.events-event-end.ensures))) in
+    rw (add-one, add-suc) (put_then c.loop-event.invariant (rw leads at c.numbered.ensures))

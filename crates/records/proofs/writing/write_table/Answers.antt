@@ -1,5 +1,6 @@
-use Rattle.std.proofs.Common.{◌≤◌, length, refl, arith}
+use Rattle.std.proofs.Common.{◌≤◌, length, Ok, ap, ◌∙◌, arith, rules}
 use Rattle.records.specs.TableWritten.{table_long, arrows_to}
+use Rattle.records.proofs.Listed.{rests}
 use Rattle.records.proofs.TablePuts.{few_arrows, table_put}
 use Rattle.records.proofs.TableTrips.{written_back}
 use Rattle.records.proofs.writing.write_table.Goals as goal
@@ -20,9 +21,13 @@ pub returns : goal.returns
 returns g c =
     let m = g.S.Site.arena c.args.site.now in
     let law = g.S.Site.lawful c.args.site.now in
-    let room = length c.args.buffer.now in
-    let fits : table_long m ≤ room = omega (arith, c.count_arrows-arrows.ensures, c.states-states.ensures) in
+    let fits : table_long m ≤ length c.args.buffer.now = omega (arith, c.count_arrows-arrows.ensures, c.states-states.ensures, c.in_ok-enough.ensures.enough) in
     let states : m.states ≤ 1024 = omega (arith, c.states-states.ensures) in
     let arrows : arrows_to m m.states ≤ 16384 = omega (arith, c.count_arrows-arrows.ensures) in
-    let done = table_put m room c.states-states.result c.states-states.ensures fits states arrows c.put_numbered-at.ensures c.put_states.ensures in
-    record { answer = done.answer; bytes = done.bytes; trip = written_back m room law fits states arrows refl done }
+    let done = table_put m c.args.buffer.now c.states-states.result c.states-states.ensures fits states arrows c.new-pen.ensures.front c.new-pen.ensures.holds c.numbered.ensures c.put_states.ensures in
+    let same = c.put_states.ensures.same ∙ (c.numbered.ensures.same ∙ c.new-pen.ensures.same) in
+    record {
+      answer = ap Ok c.written.ensures ∙ done.answer;
+      bytes = rests (search rules) done.bytes;
+      trip = written_back m c.args.buffer.now law fits states arrows done c.written.ensures (search rules);
+    }
