@@ -1,44 +1,18 @@
 -- Marks of the numbers in use, and cuts at gaps.
-use Rattle.std.proofs.Common.{◌≡◌, ℕ, suc, ◌+◌, ◌<◌, ◌≤◌, min, Bool, true, false, cond, eqb, ltb, List, [], ◌∷◌, length, set, sym, refl, ap, ◌∙◌, inl, inr, arith, length-set}
-use Rattle.std.proofs.lemmas.List.{get_or-set_same, get_or-set_other}
-use Rattle.std.proofs.lemmas.Bool.{cases_eq, cases_lt, and_left, and_parts, eq-eqb, ne_eqb, eqb-true, lt-ltb, le-ltb, ltb-true, cond-true, cond-false}
+use Rattle.std.proofs.Common.{◌≡◌, ℕ, suc, ◌<◌, ◌≤◌, Bool, true, cond, eqb, ltb, List, [], ◌∷◌, length, ◌∙◌, inl, inr, arith}
+use Rattle.std.proofs.lemmas.Bool.{cases_lt, and_parts, eq-eqb, eqb-true, lt-ltb, le-ltb, ltb-true, cond-true, cond-false}
 use Rattle.site.specs.Arena.{Arena, Lawful}
 use Rattle.site.specs.Counting.{some}
 use Rattle.parts.specs.Gaps.{unmarked, Cut}
 use Rattle.parts.specs.Lifting.{at, Calm, Backed, Raised, slack}
 use Rattle.parts.specs.Regions.{lowest}
 use Rattle.parts.proofs.Backing.{climbs}
-use Rattle.parts.proofs.Lowest.{lowest_none, lowest_passes, some_not, not_some}
-use Rattle.parts.proofs.Steps.{some_at, some_in, some_out}
+use Rattle.parts.proofs.Lowest.{lowest_passes}
+use Rattle.parts.proofs.Steps.{some_at}
 
 -- the marks of the numbers that the first k states have
-abbrev pub Marked : List ℕ → ℕ → List ℕ → Type 0
+abbrev Marked : List ℕ → ℕ → List ℕ → Type 0
 Marked xs k marks = (v : ℕ) → v < length marks → at marks v ≡ cond (some (λ s. eqb (at xs s) v) k) 1 0
-
-module _ (xs marks : List ℕ) (k number : ℕ) (inv : Marked xs k marks) (here : number ≡ at xs k) where
-  other_number : (v : ℕ) → (v ≡ number → ⊥) → at marks v ≡ cond (some (λ s. eqb (at xs s) v) k) 1 0 → at marks v ≡ cond (some (λ s. eqb (at xs s) v) (k + 1)) 1 0
-  other_number v ne e =
-      e ∙ ap (λ b. cond b 1 0) (some_out (λ s. eqb (at xs s) v) k (some (λ s. eqb (at xs s) v) k) refl (ne_eqb (at xs k) v (λ same. ne (sym same ∙ sym here))))
-
-  pub marked_more : number < length marks → Marked xs (k + 1) (set marks number 1)
-  marked_more in< v v< =
-      elim (cases_eq v number) [
-        | inl same ↦
-            rw same (get_or-set_same marks number 1 0 in< ∙ ap (λ b. cond b 1 0) (some_in (λ s. eqb (at xs s) number) k (eq-eqb (at xs k) number (sym here))))
-        | inr ne ↦ get_or-set_other marks number v 1 0 ne ∙ other_number v ne (inv v (rw length-set at v<))
-      ]
-
-  pub marked_past : length marks ≤ number → Marked xs (k + 1) marks
-  marked_past past v v< = other_number v (λ same. omega (arith, same)) (inv v v<)
-
--- no number below the end of the marks is unmarked
-pub all_marked : (marks : List ℕ) (top end : ℕ) → end ≡ min (length marks) top → some (unmarked marks) end ≡ false → top ≡ lowest (unmarked marks) top
-all_marked marks top end e none =
-    sym (lowest_none (unmarked marks) top (some_not (unmarked marks) top (λ v v<.
-    elim (cases_lt v end) [
-      | inl lt ↦ not_some (unmarked marks) end v none lt
-      | inr ge ↦ and_left (ltb v (length marks)) (eqb (at marks v) 0) (le-ltb v (length marks) (omega arith))
-    ])))
 
 -- a row that was raised above the lowest unmarked number is cut
 pub cut_at : (top : ℕ) (before after marks : List ℕ) → Marked before (length before) marks → ((s : ℕ) → at after s ≡ cond (ltb (lowest (unmarked marks) top) (at before s)) top (at before s)) → Cut top before after

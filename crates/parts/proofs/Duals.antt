@@ -36,6 +36,17 @@ pub some_agree : (p q : ℕ → Bool) (n : ℕ) → ((k : ℕ) → k < n → p k
 some_agree p q zero h = refl
 some_agree p q (suc n) h = rw (h n (omega arith), some_agree p q n (λ k lt. h k (omega arith))) refl
 
+-- regions that agree everywhere are blocked alike
+pub blocks_same : (m : Arena) (U V : ℕ → Bool) → ((t : ℕ) → U t ≡ V t) → (s : ℕ) → blocks m U s ≡ blocks m V s
+blocks_same m U V h s =
+    every_agree _ _ (m.commands s) (λ a a<. some_agree _ _ (m.events s) (λ b b<. h (m.next s a b)))
+
+-- what the controller cannot hold the floor blocks
+pub not_holds : (m : Arena) (U : ℕ → Bool) (s : ℕ) → not (holds m U s) ≡ blocks m (λ t. not (U t)) s
+not_holds m U s =
+    not_some_is (λ a. every (λ b. U (m.next s a b)) (m.events s)) (m.commands s)
+    ∙ every_agree _ _ (m.commands s) (λ a a<. not_every (λ b. U (m.next s a b)) (m.events s))
+
 -- the states outside a region
 abbrev pub other : ℕ → Region → Region
 other n U = region n (λ s. not (has U s))
@@ -55,20 +66,18 @@ module _ (m : Arena) (lawful : Lawful m) where
   blocks_agree U V h s s< =
       every_agree _ _ (m.commands s) (λ a a<. some_agree _ _ (m.events s) (λ b b<. h (m.next s a b) (lawful.closed s a b s< a< b<)))
 
-  not_holds : (U : Region) (s : ℕ) → s < m.states → not (holds m (has U) s) ≡ blocks m (has (other m.states U)) s
-  not_holds U s s< =
-      not_some_is (λ a. every (λ b. has U (m.next s a b)) (m.events s)) (m.commands s)
-      ∙ (every_agree _ _ (m.commands s) (λ a a<. not_every (λ b. has U (m.next s a b)) (m.events s))
-      ∙ blocks_agree (λ t. not (has U t)) (has (other m.states U)) (λ t lt. sym (region_has m.states (λ s. not (has U s)) t lt)) s s<)
+  not_holds_in : (U : Region) (s : ℕ) → s < m.states → not (holds m (has U) s) ≡ blocks m (has (other m.states U)) s
+  not_holds_in U s s< =
+      not_holds m (has U) s ∙ blocks_agree (λ t. not (has U t)) (has (other m.states U)) (λ t lt. sym (region_has m.states (λ s. not (has U s)) t lt)) s s<
 
-  pub F_dual : (X Y Z : Region) → other m.states (F m X Y Z) ≡ G m (other m.states X) (other m.states Y) (other m.states Z)
+  F_dual : (X Y Z : Region) → other m.states (F m X Y Z) ≡ G m (other m.states X) (other m.states Y) (other m.states Z)
   F_dual X Y Z =
       region_same m.states _ _ (λ s s<.
       ap not (region_has m.states _ s s<)
       ∙ (not_by_grade (m.grade s) (holds m (has X) s) (holds m (has Y) s) (holds m (has Z) s)
-      ∙ (ap (λ b. by_grade (m.grade s) b (not (holds m (has Y) s)) (not (holds m (has Z) s))) (not_holds X s s<)
-      ∙ (ap (λ b. by_grade (m.grade s) (blocks m (has (other m.states X)) s) b (not (holds m (has Z) s))) (not_holds Y s s<)
-      ∙ ap (by_grade (m.grade s) (blocks m (has (other m.states X)) s) (blocks m (has (other m.states Y)) s)) (not_holds Z s s<)))))
+      ∙ (ap (λ b. by_grade (m.grade s) b (not (holds m (has Y) s)) (not (holds m (has Z) s))) (not_holds_in X s s<)
+      ∙ (ap (λ b. by_grade (m.grade s) (blocks m (has (other m.states X)) s) b (not (holds m (has Z) s))) (not_holds_in Y s s<)
+      ∙ ap (by_grade (m.grade s) (blocks m (has (other m.states X)) s) (blocks m (has (other m.states Y)) s)) (not_holds_in Z s s<)))))
 
 -- operators that the complement turns into each other, step by step
 iterate_dual : (n : ℕ) (f g : Region → Region) → ((U : Region) → other n (f U) ≡ g (other n U)) → (k : ℕ) (U : Region) → other n (iterate k f U) ≡ iterate k g (other n U)
@@ -94,13 +103,13 @@ abbrev pub remain : Arena → ℕ → Region
 remain m i = iterate i (limit m) (all m.states)
 
 module _ (m : Arena) (lawful : Lawful m) where
-  pub limit_dual : (U : Region) → other m.states (limit m U) ≡ greatest m.states (λ Y. least m.states (G m (other m.states U) Y))
+  limit_dual : (U : Region) → other m.states (limit m U) ≡ greatest m.states (λ Y. least m.states (G m (other m.states U) Y))
   limit_dual U =
       least_dual m.states (λ Y. greatest m.states (F m U Y)) (λ Y. least m.states (G m (other m.states U) Y)) (λ Y.
       greatest_dual m.states (F m U Y) (G m (other m.states U) (other m.states Y)) (F_dual m lawful U Y))
 
   -- the stages are what the phases have taken out
-  pub stage_is : (i : ℕ) → stage m i ≡ other m.states (remain m i)
+  stage_is : (i : ℕ) → stage m i ≡ other m.states (remain m i)
   stage_is i =
       sym (iterate_dual m.states (limit m) (λ X. greatest m.states (λ Y. least m.states (G m X Y))) limit_dual i (all m.states) ∙ ap (iterate i (λ X. greatest m.states (λ Y. least m.states (G m X Y)))) (other_all m.states))
 

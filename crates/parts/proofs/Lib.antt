@@ -8,6 +8,7 @@ pub mod Levels
 pub mod Lowest
 pub mod Peeling
 pub mod Raises
+pub mod Ranges
 pub mod Regions
 pub mod Seconds
 pub mod Steps

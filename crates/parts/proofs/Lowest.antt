@@ -66,11 +66,3 @@ lowest_min p n k lt h =
 -- below its bound it passes
 pub lowest_passes : (p : ℕ → Bool) (n : ℕ) → lowest p n < n → p (lowest p n) ≡ true
 lowest_passes p n lt = elim (lowest_ways p n) [ inl a ↦ absurd (omega (arith, a.0)) | inr b ↦ b.1 ]
-
--- and nothing below it does
-pub lowest_below : (p : ℕ → Bool) (n k : ℕ) → k < lowest p n → p k ≡ false
-lowest_below p n k lt =
-    elim (lowest_ways p n) [
-      | inl a ↦ not_some p n k a.1 (omega (arith, a.0))
-      | inr b ↦ not_some p (lowest p n) k b.2 lt
-    ]

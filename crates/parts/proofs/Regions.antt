@@ -1,6 +1,5 @@
 -- Regions as sets: membership, inclusion, and the fixed points of growing operators.
-use Rattle.std.proofs.Common.{◌≡◌, ℕ, zero, suc, ◌+◌, ◌<◌, ◌≤◌, Bool, true, false, ◌⊎◌, map, length, sym, refl, ap, ◌∙◌, subst, inl, inr, zero-add, arith}
-use Rattle.std.specs.List.{range_with_len}
+use Rattle.std.proofs.Common.{◌≡◌, ℕ, zero, suc, ◌+◌, ◌<◌, ◌≤◌, Bool, true, false, ◌⊎◌, length, sym, refl, ap, ◌∙◌, subst, inl, inr, zero-add, arith}
 use Rattle.std.proofs.lemmas.List.FromFn.{length-map-range_with_len, get_or-map-range_with_len}
 use Rattle.std.proofs.lemmas.List.{ext_get_or, get_or_past}
 use Rattle.std.proofs.lemmas.Bool.{cases_Bool, cases_lt, cases_eq, cond_both, both_ways}
@@ -16,10 +15,6 @@ region_length n p = length-map-range_with_len p 0 n
 pub region_has : (n : ℕ) (p : ℕ → Bool) (s : ℕ) → s < n → has (region n p) s ≡ p s
 unfolding region
 region_has n p s lt = get_or-map-range_with_len p 0 n s s false lt (zero-add s)
-
-pub region_past : (n : ℕ) (p : ℕ → Bool) (s : ℕ) → n ≤ s → has (region n p) s ≡ false
-unfolding region
-region_past n p s ge = get_or_past (map p (range_with_len 0 n)) s false (rw (length-map-range_with_len p 0 n) ge)
 
 -- a region of n states
 abbrev pub Sized : ℕ → Region → Type 0
@@ -59,7 +54,7 @@ region_same n p q h =
     (region_within n p q (λ s lt e. sym (h s lt) ∙ e))
     (region_within n q p (λ s lt e. h s lt ∙ e))
 
-pub all_has : (n s : ℕ) → s < n → has (all n) s ≡ true
+all_has : (n s : ℕ) → s < n → has (all n) s ≡ true
 all_has n s lt = region_has n (λ _. true) s lt
 
 pub nothing_has : (n s : ℕ) → has (nothing n) s ≡ true → ⊥
@@ -67,10 +62,10 @@ nothing_has n s e =
     let lt = has_below n (nothing n) (region_length n (λ _. false)) s e in
     both_ways (has (nothing n) s) (region_has n (λ _. false) s lt) e
 
-pub within_all : (n : ℕ) (U : Region) → Sized n U → Within U (all n)
+within_all : (n : ℕ) (U : Region) → Sized n U → Within U (all n)
 within_all n U size s e = all_has n s (has_below n U size s e)
 
-pub nothing_within : (n : ℕ) (U : Region) → Within (nothing n) U
+nothing_within : (n : ℕ) (U : Region) → Within (nothing n) U
 nothing_within n U s e = absurd (nothing_has n s e)
 
 -- is one region within another: a search says yes, or names a state that is not
@@ -91,7 +86,7 @@ within_or n U V size = elim (go n) [ inl h ↦ inl (λ s e. h s (has_below n U s
       ]
 
 -- counting the members of regions
-pub count_mono : (p q : ℕ → Bool) (n : ℕ) → ((s : ℕ) → s < n → p s ≡ true → q s ≡ true) → count p n ≤ count q n
+count_mono : (p q : ℕ → Bool) (n : ℕ) → ((s : ℕ) → s < n → p s ≡ true → q s ≡ true) → count p n ≤ count q n
 count_mono p q zero h = omega arith
 count_mono p q (suc n) h =
     let below = count_mono p q n (λ s lt. h s (omega arith)) in

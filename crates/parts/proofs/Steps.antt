@@ -1,16 +1,9 @@
 -- One turn more of the loops over commands and events.
-use Rattle.std.proofs.Common.{◌≡◌, ℕ, zero, suc, ◌+◌, ◌<◌, ◌≤◌, min, max, Bool, true, false, eqb, sym, refl, ap, ◌∙◌, inl, inr, add-one, arith}
-use Rattle.std.proofs.lemmas.Bool.{or_from, or_left, or_right, cases_eq, cond_both}
+use Rattle.std.proofs.Common.{◌≡◌, ℕ, zero, suc, ◌+◌, ◌<◌, ◌≤◌, Bool, true, false, not, eqb, leb, ltb, sym, refl, ap, ◌∙◌, inl, inr, add-one, arith}
+use Rattle.std.proofs.lemmas.Bool.{or_from, or_left, or_right, cases_eq, cases_lt, cond_both, le-leb, lt-leb, lt-ltb, le-ltb}
 use Rattle.site.specs.Arena.{Arena, Lawful, graded}
-use Rattle.site.specs.Counting.{every, some, count}
-use Rattle.parts.specs.Lifting.{worst, best}
-use Rattle.parts.specs.Moves.{blocks}
-
-pub worst_more : (m : Arena) (x : ℕ → ℕ) (s a b most r : ℕ) → most ≡ worst m x s a b → r ≡ x (m.next s a b) → max most r ≡ worst m x s a (b + 1)
-worst_more m x s a b most r p q = rw (add-one, p, q) refl
-
-pub best_more : (m : Arena) (top : ℕ) (x : ℕ → ℕ) (s a least r : ℕ) → least ≡ best m top x s a → r ≡ worst m x s a (m.events s) → min least r ≡ best m top x s (a + 1)
-best_more m top x s a least r p q = rw (add-one, p, q) refl
+use Rattle.site.specs.Counting.{some, count}
+use Rattle.parts.specs.Lifting.{best}
 
 pub best_top : (m : Arena) (top : ℕ) (x : ℕ → ℕ) (s a : ℕ) → best m top x s a ≤ top
 best_top m top x s zero = omega arith
@@ -51,16 +44,9 @@ some_out p n any e h = rw (add-one n, h) e
 pub graded_le : (m : Arena) → Lawful m → (g : ℕ) → graded m g ≤ 8192
 graded_le m lawful g = omega (arith, count_le (λ s. eqb (m.grade s) g) m.states, lawful.limited)
 
--- tests that agree everywhere agree in all, in some
-pub every_same : (p q : ℕ → Bool) → ((k : ℕ) → p k ≡ q k) → (n : ℕ) → every p n ≡ every q n
-every_same p q h zero = refl
-every_same p q h (suc n) = rw (h n, every_same p q h n) refl
-
-pub some_same : (p q : ℕ → Bool) → ((k : ℕ) → p k ≡ q k) → (n : ℕ) → some p n ≡ some q n
-some_same p q h zero = refl
-some_same p q h (suc n) = rw (h n, some_same p q h n) refl
-
--- regions that agree are blocked and held alike
-pub blocks_same : (m : Arena) (U V : ℕ → Bool) → ((t : ℕ) → U t ≡ V t) → (s : ℕ) → blocks m U s ≡ blocks m V s
-blocks_same m U V h s =
-    every_same (λ a. some (λ b. U (m.next s a b)) (m.events s)) (λ a. some (λ b. V (m.next s a b)) (m.events s)) (λ a. some_same (λ b. U (m.next s a b)) (λ b. V (m.next s a b)) (λ b. h (m.next s a b)) (m.events s)) (m.commands s)
+pub not_leb : (a b : ℕ) → not (leb a b) ≡ ltb b a
+not_leb a b =
+    elim (cases_lt b a) [
+      | inl lt ↦ ap not (lt-leb a b lt) ∙ sym (lt-ltb b a lt)
+      | inr ge ↦ ap not (le-leb a b ge) ∙ sym (le-ltb b a ge)
+    ]

@@ -1,18 +1,15 @@
 -- Passes over a row that write some of its states.
-use Rattle.std.proofs.Common.{◌≡◌, ℕ, ◌+◌, ◌<◌, ◌≤◌, Bool, true, false, cond, ◌&&◌, eqb, ltb, leb, List, length, set, replicate, sym, ap, ◌∙◌, inl, inr, arith}
+use Rattle.std.proofs.Common.{◌≡◌, ℕ, ◌+◌, ◌<◌, Bool, true, false, cond, ◌&&◌, eqb, ltb, leb, List, length, set, replicate, sym, ap, ◌∙◌, inl, inr, arith}
 use lib.ListN.{length-replicate}
 use Rattle.std.proofs.lemmas.List.{get_or-set_same, get_or-set_other, get_or-replicate, get_or_past}
 use Rattle.std.proofs.lemmas.Bool.{cases_eq, cases_lt, cond-true, cond-false, and_from, and_left, and_right, lt-ltb, le-ltb, cases_Bool, eqb-true, eq-eqb, and_parts}
 use Rattle.parts.specs.Lifting.{at, none, unnumbered}
 use Rattle.parts.specs.Written.{Written, due}
 use Rattle.parts.specs.Moves.{blocks}
-use Rattle.parts.proofs.Steps.{blocks_same}
+use Rattle.parts.proofs.Duals.{blocks_same}
 use Rattle.site.specs.Arena.{Arena}
 
 module _ (p : ℕ → Bool) (v : ℕ → ℕ) (before : List ℕ) where
-  pub written_none : Written p v before 0 before
-  written_none s = sym (cond-false (ltb s 0 && p s) (v s) (at before s) (and_left (ltb s 0) (p s) (le-ltb s 0 (omega arith))))
-
   -- the state that is next is as it was
   pub written_here : (k : ℕ) (xs : List ℕ) → Written p v before k xs → at xs k ≡ at before k
   written_here k xs w = w k ∙ cond-false (ltb k k && p k) (v k) (at before k) (and_left (ltb k k) (p k) (le-ltb k k (omega arith)))
@@ -37,14 +34,6 @@ module _ (p : ℕ → Bool) (v : ℕ → ℕ) (before : List ℕ) where
       elim (cases_eq s k) [
         | inl s≡k ↦ rw s≡k (written_here k xs w ∙ sym (cond-false (ltb k (k + 1) && p k) (v k) (at before k) (and_right (ltb k (k + 1)) (p k) fail)))
         | inr ne ↦ w s ∙ ap (λ b. cond b (v s) (at before s)) (sym (passed k s ne))
-      ]
-
-  -- the whole row
-  pub written_all : (n : ℕ) (xs : List ℕ) → Written p v before n xs → ((s : ℕ) → n ≤ s → p s ≡ false) → (s : ℕ) → at xs s ≡ cond (p s) (v s) (at before s)
-  written_all n xs w past s =
-      elim (cases_lt s n) [
-        | inl lt ↦ w s ∙ ap (λ b. cond (b && p s) (v s) (at before s)) (lt-ltb s n lt)
-        | inr ge ↦ w s ∙ (cond-false (ltb s n && p s) (v s) (at before s) (and_right (ltb s n) (p s) (past s ge)) ∙ sym (cond-false (p s) (v s) (at before s) (past s ge)))
       ]
 
 -- a round's labels: those below j are the same before and after, so a state is due by either

@@ -1,3 +1,4 @@
+pub mod Directions
 pub mod Gaps
 pub mod Lifting
 pub mod Moves

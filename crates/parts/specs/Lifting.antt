@@ -55,7 +55,3 @@ pub record Raised (m : Arena) (top : ℕ) (U : ℕ → Bool) (before after : Lis
 abbrev pub slack : ℕ → List ℕ → ℕ
 slack top [] = 0
 slack top (x ∷ xs) = (top - x) + slack top xs
-
--- the state that a sweep visits after k others of n, upwards or downwards
-abbrev pub visit : Bool → ℕ → ℕ → ℕ
-visit down n k = cond down (n - 1 - k) k

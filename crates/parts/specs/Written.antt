@@ -1,5 +1,5 @@
 -- What a row holds after a pass that writes some of its states.
-use Rattle.std.specs.Prelude.{◌≡◌, ℕ, Bool, false, cond, ◌&&◌, ltb, List, ◌==◌, nat_le, nat_lt}
+use Rattle.std.specs.Prelude.{◌≡◌, ℕ, Bool, false, cond, ◌&&◌, List, ◌==◌, nat_le, nat_lt}
 use Rattle.site.specs.Arena.{Arena}
 use Rattle.parts.specs.Moves.{blocks, by_grade}
 use Rattle.parts.specs.Lifting.{at, unnumbered}
@@ -23,4 +23,4 @@ waiting i firsts labels s = at firsts s == i && unnumbered labels s
 -- a state without a label, with a first number up to i, all of whose commands can be answered into labels below j
 abbrev pub due : Arena → ℕ → ℕ → List ℕ → List ℕ → ℕ → Bool
 due m i j firsts labels s =
-    nat_le (at firsts s) i && (unnumbered labels s && blocks m (λ t. ltb (at labels t) j) s)
+    nat_le (at firsts s) i && (unnumbered labels s && blocks m (λ t. nat_lt (at labels t) j) s)

@@ -9,34 +9,39 @@ fn mark_used(ranks: &[u16], marks: &mut [u16])
     ensures { (v : ℕ) → v < length marks.old → at marks.new v ≡ (if in_use ranks.now v then 1 else 0) }
 {
     marks.fill(0);
-    for s in 0..ranks.len() {
-        let number = ranks[s] as usize;
+    for rank in ranks {
+        let number = usize::from(*rank);
         if number < marks.len() {
             marks[number] = 1;
         }
     }
 }
 
+// Whether `number` has a mark, which says that no state has the number.
+fn is_unused(marks: &[u16], number: u16) -> bool
+    ensures { result ≡ unmarked marks.now number }
+{
+    marks
+        .get(usize::from(number))
+        .is_some_and(|mark| *mark == 0)
+}
+
 // The lowest number below `top` whose mark says that no state has it; `top` where there is none.
 fn lowest_unused(top: u16, marks: &[u16]) -> u16
     ensures { result ≡ lowest (unmarked marks.now) top }
 {
-    let end = marks.len().min(top as usize);
-    for number in 0..end {
-        if marks[number] == 0 {
-            return number as u16;
-        }
-    }
-    top
+    (0..top)
+        .find(|number| is_unused(marks, *number))
+        .unwrap_or(top)
 }
 
 // Raises every state above `gap` to `top`.
 fn raise_above(gap: u16, top: u16, ranks: &mut [u16])
     ensures { (s : ℕ) → at ranks.new s ≡ (if nat_lt gap (at ranks.old s) then top else at ranks.old s) }
 {
-    for s in 0..ranks.len() {
-        if gap < ranks[s] {
-            ranks[s] = top;
+    for rank in ranks.iter_mut() {
+        if gap < *rank {
+            *rank = top;
         }
     }
 }

@@ -5,7 +5,7 @@ ghost use Rattle.parts.specs.Rows.{first_row, rank_row, second_row, rows_fit, ro
 
 use crate::labels::stages;
 use crate::phases::phases;
-use site::faults::Fault;
+use site::faults::{Fault, enough};
 use site::interface::Site;
 
 // Fills rows that have one place for each state.
@@ -45,9 +45,10 @@ pub fn number_states<S: Site>(
     ensures labels { labels.new ≡ row_after (S.Site.arena site.now) (rows_fit (S.Site.arena site.now) (length firsts.old) (length ranks.old) (length seconds.old) (length labels.old)) (replicate (S.Site.arena site.now).states 0) labels.old }
 {
     let n = site.states();
-    if firsts.len() < n || ranks.len() < n || seconds.len() < n || labels.len() < n {
-        return Err(Fault::TooShort { needed: n });
-    }
+    enough(firsts.len(), n)?;
+    enough(ranks.len(), n)?;
+    enough(seconds.len(), n)?;
+    enough(labels.len(), n)?;
     fill_rows(
         site,
         &mut firsts[0..n],

@@ -1,58 +1,42 @@
 // The open states, phase by phase: each phase takes out the states that cannot keep to the rest.
-ghost use Rattle.std.specs.Prelude.{◌≡◌, ℕ, ◌<◌, ◌≤◌, true, false, length, if◌then◌else◌, ◌==◌};
+ghost use Rattle.std.specs.Prelude.{◌≡◌, ℕ, ◌<◌, ◌≤◌, true, false, length, if◌then◌else◌, ◌&&◌, ◌==◌};
 ghost use Rattle.site.specs.Arena.{graded};
 ghost use Rattle.site.specs.Counting.{some};
-ghost use Rattle.parts.specs.Lifting.{at};
+ghost use Rattle.parts.specs.Lifting.{at, none};
 ghost use Rattle.parts.specs.Rows.{FirstRow, RankRow};
 ghost use Rattle.parts.specs.Written.{lost};
 
-use crate::lifting::{NONE, settle};
+use crate::lifting::{Lift, NONE};
 use site::grades::Grade;
 use site::interface::Site;
-
-// Whether state `s` is doubted.
-fn is_doubted<S: Site>(site: &S, s: usize) -> bool
-    ensures { result ≡ ((S.Site.arena site.now).grade s == 1) }
-{
-    match site.grade(s) {
-        Grade::Confirmed => false,
-        Grade::Doubted => true,
-        Grade::Ordinary => false,
-    }
-}
 
 // How many states are doubted.
 fn doubted<S: Site>(site: &S) -> usize
     ensures { result ≡ graded (S.Site.arena site.now) 1 }
 {
-    let mut many: usize = 0;
-    for s in 0..site.states() {
-        if is_doubted(site, s) {
-            many += 1;
-        }
-    }
-    many
+    (0..site.states())
+        .filter(|s| site.grade(*s) == Grade::Doubted)
+        .count()
 }
 
-// Whether state `s` has no number yet and its rank is `top`.
-fn is_lost(top: u16, ranks: &[u16], firsts: &[u16], s: usize) -> bool
-    requires firsts { s < length firsts.now }
-    requires ranks { s < length ranks.now }
-    ensures { result ≡ lost top ranks.now firsts.now s }
+// Whether a state has no first number yet and its rank is `top`.
+fn is_lost(top: u16, rank: u16, first: u16) -> bool
+    ensures { result ≡ (first == none && rank == top) }
 {
-    firsts[s] == NONE && ranks[s] == top
+    first == NONE && rank == top
 }
 
-// Gives the number `i` to every state without a number whose rank is `top`; says whether there was one.
+// Gives the number `i` to every state without a number whose rank is `top`; says whether there was one. The rows are not
+// zipped: of a row that is written in a `zip` a proof knows its length alone.
 fn mark(top: u16, i: u16, ranks: &[u16], firsts: &mut [u16]) -> bool
     requires { length ranks.now ≡ length firsts.old }
     ensures marked { (s : ℕ) → at firsts.new s ≡ (if lost top ranks.now firsts.old s then i else at firsts.old s) }
     ensures any { result ≡ some (lost top ranks.now firsts.old) (length firsts.old) }
 {
     let mut any = false;
-    for s in 0..firsts.len() {
-        if is_lost(top, ranks, firsts, s) {
-            firsts[s] = i;
+    for (s, first) in firsts.iter_mut().enumerate() {
+        if is_lost(top, ranks[s], *first) {
+            *first = i;
             any = true;
         }
     }
@@ -77,7 +61,8 @@ pub(crate) fn phases<S: Site>(
     let n = site.states();
     let top = doubted(site) as u16 + 1;
     for i in 0..n + 1 {
-        settle(site, top, firsts, ranks, marks);
+        let lift = Lift { site, firsts, top };
+        lift.settle(ranks, marks);
         if !mark(top, i as u16, ranks, firsts) {
             return i;
         }

@@ -1,11 +1,9 @@
-use Rattle.std.proofs.Common.{◌≡◌, ℕ, ◌≤◌, Bool, false, ◌&&◌, eqb, length, sym, refl, ap, ◌∙◌, arith}
-use Rattle.std.proofs.lemmas.List.{get_or_past}
-use Rattle.std.proofs.lemmas.Bool.{and_left}
-use Rattle.site.specs.Counting.{some}
+use Rattle.std.proofs.Common.{◌≡◌, ℕ, Bool, ◌&&◌, eqb, sym, refl, ap, ◌∙◌, arith}
+use Rattle.std.proofs.lemmas.List.{set-get_or}
 use Rattle.parts.specs.Lifting.{at, none}
 use Rattle.parts.specs.Written.{lost}
 use Rattle.parts.proofs.Steps.{some_in, some_out}
-use Rattle.parts.proofs.Writes.{written_here, written_set, written_skip, written_all}
+use Rattle.parts.proofs.Writes.{written_here, written_set, written_skip}
 use Rattle.parts.proofs.phases.mark.Goals as goal
 use Rattle.parts.proofs.phases.mark.Goals.{then-is_lost, else-is_lost}
 
@@ -22,16 +20,5 @@ loop-s-preserved c =
           rw (w.firsts-is, w.any-is) (written_set p v before s c.loop-s.firsts c.args.i c.loop-s.invariant.0 pass refl (omega arith), some_in p s pass)
       | else-is_lost w ↦
           let fail = same ∙ sym w.if-is_lost.ensures in
-          rw (w.firsts-is, w.any-is) (written_skip p v before s c.loop-s.firsts c.loop-s.invariant.0 fail, some_out p s c.loop-s.any c.loop-s.invariant.1 fail)
+          rw (w.firsts-is, set-get_or, w.any-is) (written_skip p v before s c.loop-s.firsts c.loop-s.invariant.0 fail, some_out p s c.loop-s.any c.loop-s.invariant.1 fail)
     ]
-
-pub returns : goal.returns
-returns c =
-    let before = c.args.firsts.now in
-    let p : ℕ → Bool = lost c.args.top c.args.ranks.now before in
-    let n : c.loop-s.s ≡ length before = omega arith in
-    let past : (s : ℕ) → c.loop-s.s ≤ s → p s ≡ false = λ s le. and_left (eqb (at before s) none) (eqb (at c.args.ranks.now s) c.args.top) (ap (λ x. eqb x none) (get_or_past before s 0 (omega arith))) in
-    record {
-      marked = written_all p (λ _. c.args.i) before c.loop-s.s c.loop-s.firsts c.loop-s.invariant.0 past;
-      any = c.loop-s.invariant.1 ∙ ap (some p) n;
-    }

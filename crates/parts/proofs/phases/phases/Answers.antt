@@ -25,8 +25,8 @@ loop-i-init g c =
       (λ h calm v μ μ< given s s< more. absurd (omega (arith, more, zeros s))),
     )
 
-pub settle-requires : goal.settle-requires
-settle-requires g c = record { limit = omega (arith, c.doubted.ensures, graded_le _ (g.S.Site.lawful c.args.site.now) 1); firsts = omega arith; ranks = omega arith; capped = c.loop-i.invariant.0; backed = c.loop-i.invariant.4 }
+pub invariant_of-lift-clause-limited : goal.invariant_of-lift-clause-limited
+invariant_of-lift-clause-limited g c = omega (arith, c.doubted.ensures, graded_le _ (g.S.Site.lawful c.args.site.now) 1)
 
 pub returns-then-not-mark : goal.returns-then-not-mark
 returns-then-not-mark g c =
@@ -43,6 +43,3 @@ loop-i-preserved g c =
     let few = (g.S.Site.lawful c.args.site.now).limited in
     let fewer : (t : ℕ) → unnumbered c.mark.new.firsts t ≡ true → unnumbered c.loop-i.firsts t ≡ true = still_unnumbered c.loop-i.i (lost (c.doubted.result + 1) c.settle.new.ranks c.loop-i.firsts) c.loop-i.firsts c.mark.new.firsts (omega arith) c.mark.ensures.marked in
     (c.settle.ensures.raised.capped, next.0, next.1, next.2, backed_less m (g.S.Site.lawful c.args.site.now) (c.doubted.result + 1) (unnumbered c.loop-i.firsts) (unnumbered c.mark.new.firsts) fewer (at c.settle.new.ranks) (c.settle.ensures.raised.backed c.loop-i.invariant.4))
-
-pub overflow_cast-i : goal.overflow_cast-i
-overflow_cast-i g c = omega (arith, c.loop-i.invariant.3, (g.S.Site.lawful c.args.site.now).limited)

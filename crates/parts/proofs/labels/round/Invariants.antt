@@ -1,6 +1,0 @@
-use Rattle.parts.specs.Written.{Written, due}
-use Rattle.parts.proofs.labels.round.Given as goal
-
-abbrev pub invariant-loop-s : goal.invariant-loop-s
-invariant-loop-s g l =
-    Written (due (g.S.Site.arena l.site) l.i l.j l.firsts l.initial.labels) (λ _. l.j) l.initial.labels l.s l.labels
