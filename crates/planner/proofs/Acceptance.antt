@@ -1,7 +1,7 @@
 -- The planned pair keeps the rules of the check.
 use Rattle.parts.specs.Regions as regions
 use Rattle.std.proofs.Common.{◌≡◌, ℕ, zero, suc, ◌*◌, ◌<◌, ◌≤◌, Bool, true, false, not, eqb, List, length, sym, refl, ap, ◌∙◌, subst, inl, inr, arith}
-use Rattle.std.proofs.lemmas.Bool.{cases_Bool, and_from, and_parts, cond-true, cond-false, not-false, not-true}
+use Rattle.std.proofs.lemmas.Bool.{cases_Bool, and_from, and_parts, cond-true, cond-false, not-true}
 use Rattle.site.specs.Arena.{Arena, Lawful, graded}
 use Rattle.site.specs.Counting.{every}
 use Rattle.site.specs.CountingLaws.{every_at}
@@ -21,7 +21,7 @@ use Rattle.parts.proofs.Lowest.{lowest_min, lowest_passes}
 use Rattle.parts.proofs.Peeling.{covered_fixed, covered_size, stage_jump, stage_below}
 use Rattle.parts.proofs.Regions.{Within, has_below, nothing_has, rising_least}
 use Rattle.parts.proofs.Turns.{turn, round_grows, round_jump, round_in, round_rule, round_last}
-use Rattle.parts.proofs.Worded.{covered_not, words}
+use Rattle.parts.proofs.Worded.{words}
 use Rattle.planner.specs.Choices.{keeps_rule, answers_rule, chosen_command, chosen_reply, chosen_leaf, leaves_written, replies_written}
 use Rattle.planner.specs.Planned.{numbers}
 use Rattle.planner.proofs.Written.{leaves_length, replies_length, leaf_written, reply_written}
@@ -76,9 +76,6 @@ module _ (m : Arena) (lawful : Lawful m) where
       (lt, λ b b<. every_at (keeps_rule m (numbers m) s (chosen_command m (numbers m) s)) (m.events s) b (lowest_passes p (m.commands s) lt) b<)
 
   -- open states: the first number is that of a stage, the second that of a round, each the least such
-  opened_stage : (s : ℕ) → s < m.states → has (covered m) s ≡ false → has (stage m m.states) s ≡ true
-  opened_stage s lt f = not-false (has (stage m m.states) s) (sym (covered_not m lawful s lt) ∙ f)
-
   stage_open : (i s : ℕ) → has (stage m i) s ≡ true → has (covered m) s ≡ false
   stage_open i s h =
       elim (cases_Bool (has (covered m) s)) [

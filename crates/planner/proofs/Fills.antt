@@ -1,11 +1,12 @@
 -- Loops that write entries one after another.
-use Rattle.std.proofs.Common.{◌≡◌, ℕ, ◌+◌, ◌-◌, ◌≤◌, List, [], ◌∷◌, ◌++◌, map, length, take, drop, set, sym, ap, ◌∙◌, add-zero, zero-add, arith, length-drop}
+use Rattle.std.proofs.Common.{◌≡◌, ℕ, ◌+◌, ◌-◌, ◌≤◌, Bool, true, false, if◌then◌else◌, Some, None, refl, List, [], ◌∷◌, ◌++◌, map, length, take, drop, set, sym, ap, ◌∙◌, add-zero, zero-add, arith, length-drop}
 use borrow.Rule.Slice.PartMut.{put_mid}
-use Rattle.std.proofs.lemmas.List.{take_rest, drop_all, append-nil}
+use Rattle.std.proofs.lemmas.List.{take_rest, drop_all, append-nil, length-take-le}
 use Rattle.std.specs.List.{range_with_len}
+use Rattle.std.specs.Option.{is_some}
 use Rattle.std.proofs.lemmas.List.FromFn.{map-range_with_len_more, length-map-range_with_len}
 use Rattle.site.specs.Laid.{laid}
-use Rattle.site.proofs.Laid.{laid_push, laid_part}
+use Rattle.site.proofs.Laid.{laid_push, laid_part, laid_whole}
 
 -- one entry more of a function of the index
 pub laid_counted_more : (f : ℕ → ℕ) (k x : ℕ) (xs ys : List ℕ) → xs ≡ laid 0 (map f (range_with_len 0 k)) ys → x ≡ f k → set xs k x ≡ laid 0 (map f (range_with_len 0 (k + 1))) ys
@@ -21,3 +22,15 @@ laid_lent k ys xs last le e =
     let rest : drop (length xs - k) (drop k xs) ≡ [] = drop_all (length xs - k) (drop k xs) (rw length-drop (omega arith)) in
     let part : last ≡ laid 0 ys (drop k xs) = e ∙ ap (laid 0 ys) (take_rest xs k) in
     rw (rest, part) (rw append-nil (laid_part k 0 ys xs le ∙ ap (λ i. laid i ys xs) (add-zero k)))
+
+-- a state that has a first number is open
+pub opened : (covered : Bool) (first : ℕ) → is_some (if covered then None else Some first) ≡ true → covered ≡ false
+opened false first h = refl
+opened true first h = sym h
+
+-- entries laid over all of a slice's front are laid over the slice
+pub laid_front : (n : ℕ) (xs ys : List ℕ) → length xs ≡ n → n ≤ length ys → laid 0 xs (take n ys) ++ drop n ys ≡ laid 0 xs ys
+laid_front n xs ys size room =
+    let long : length (take n ys) ≡ n = length-take-le n ys room in
+    ap (λ zs. zs ++ drop n ys) (laid_whole xs (take n ys) (omega arith) ∙ (ap (λ zs. xs ++ zs) (drop_all (length xs) (take n ys) (omega arith)) ∙ append-nil xs))
+    ∙ (ap (λ k. xs ++ drop k ys) (sym size) ∙ sym (laid_whole xs ys (omega arith)))

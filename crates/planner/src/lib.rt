@@ -3,6 +3,7 @@
 
 pub mod certifying;
 pub mod choosing;
+pub mod numbered;
 pub mod planning;
 pub mod rows;
 pub mod writing;

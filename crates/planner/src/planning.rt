@@ -4,15 +4,15 @@ ghost use Rattle.site.specs.Refusals.{answered};
 ghost use Rattle.planner.specs.Choices.{leaves_written, replies_written};
 ghost use Rattle.planner.specs.Planned.{numbers, parts_counted, planned_answer, planned_leaves, planned_replies, WorkKept};
 
+use crate::numbered::Numbered;
 use crate::rows::Rows;
-use crate::writing::write_states;
 use checker::leaves::{Counts, Leaf, PLACES};
 use parts::numbering::number_states;
-use site::faults::Fault;
+use site::faults::{Fault, enough};
 use site::interface::Site;
 
-// How many rows of numbers planning works with.
-const ROWS: usize = 4;
+// How many rows of numbers planning works with, each with a number for each state.
+pub const ROWS: usize = 4;
 
 // Plans in slices that are long enough, with exactly 4 N numbers of work.
 fn plan_roomy<S: Site>(
@@ -38,7 +38,7 @@ fn plan_roomy<S: Site>(
         ranks,
         seconds,
     };
-    Ok(write_states(site, rows, leaves, replies))
+    Ok(Numbered::new(site, rows).write_states(leaves, replies))
 }
 
 // Plans the site: N leaves, the replies of the open states, and how many states are covered and open.
@@ -55,14 +55,8 @@ pub fn plan<S: Site>(
     ensures work { WorkKept (S.Site.arena site.now) (length leaves.old) (length replies.old) work.old work.new }
 {
     let n = site.states();
-    if leaves.len() < n {
-        return Err(Fault::TooShort { needed: n });
-    }
-    if replies.len() < PLACES * n {
-        return Err(Fault::TooShort { needed: PLACES * n });
-    }
-    if work.len() < ROWS * n {
-        return Err(Fault::TooShort { needed: ROWS * n });
-    }
-    plan_roomy(site, leaves, replies, &mut work[0..ROWS * n])
+    enough(leaves.len(), n)?;
+    enough(replies.len(), PLACES * n)?;
+    enough(work.len(), ROWS * n)?;
+    plan_roomy(site, leaves, replies, &mut work[..ROWS * n])
 }

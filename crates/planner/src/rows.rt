@@ -1,4 +1,4 @@
-// The numbers of all states, as rows that are lent for reading.
+// The rows of numbers that planning works out: slices of the work that the caller lends.
 #[derive(Clone, Copy)]
 pub(crate) struct Rows<'a> {
     // first numbers, with a mark where the state is covered

@@ -15,7 +15,7 @@ returns g c =
     (done.ranks ∙ exact m _ _ _ _ (rank_row m) _ (omega arith) (omega arith) (omega arith) (omega arith) (omega arith))
     (done.seconds ∙ exact m _ _ _ _ (second_row m) _ (omega arith) (omega arith) (omega arith) (omega arith) (omega arith)) in
     record {
-      answer = ap Ok (c.write_states.ensures.counts ∙ counted_agree m lawful _ (numbers m) agree);
-      leaves = c.write_states.ensures.leaves ∙ leaves_written_agree m lawful _ (numbers m) agree m.states c.args.leaves.now (omega arith);
-      replies = c.write_states.ensures.replies ∙ replies_written_agree m lawful _ (numbers m) agree m.states c.args.replies.now (omega arith);
+      answer = ap Ok ((rw (c.new.ensures.site, c.new.ensures.rows) at c.write_states.ensures.counts) ∙ counted_agree m lawful _ (numbers m) agree);
+      leaves = (rw (c.new.ensures.site, c.new.ensures.rows) at c.write_states.ensures.leaves) ∙ leaves_written_agree m lawful _ (numbers m) agree m.states c.args.leaves.now (omega arith);
+      replies = (rw (c.new.ensures.site, c.new.ensures.rows) at c.write_states.ensures.replies) ∙ replies_written_agree m lawful _ (numbers m) agree m.states c.args.replies.now (omega arith);
     }
