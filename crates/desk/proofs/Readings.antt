@@ -12,7 +12,8 @@ use Rattle.records.specs.TableBytes.{Read}
 use Rattle.records.specs.TableRead.{sized}
 use Rattle.records.proofs.Answered.{and_then_ok}
 use Rattle.desk.specs.ReadFloors.{held, site_of, FloorOf}
-use Rattle.desk.specs.Verdicts.{Answers, book_verdict, read_leaves, read_replies, table_end, verdict}
+use Rattle.desk.specs.Made.{Answers}
+use Rattle.desk.specs.Verdicts.{book_verdict, read_leaves, read_replies, table_end, verdict}
 use Rattle.desk.specs.declared.failures.Failure.{Failure}
 use Rattle.desk.specs.declared.failures.Failure.TheVariants.{Refused, NoMemory}
 
@@ -44,11 +45,10 @@ from_end bs end e =
     ap (λ r. and_then r (λ end. and_then (held (take end bs)) (λ rd. book_verdict (site_of rd) (drop end bs)))) (sym e)
 
 -- a refusal of the table
-pub table_refused : (bs : List ℕ) (end : ℕ) (why : Failure) → Ok end ≡ table_end bs → FloorOf (take (end - 0) bs) (Err why) → Answers (verdict bs) (Err why)
+pub table_refused : (bs : List ℕ) (end : ℕ) (why : Failure) → Ok end ≡ table_end bs → FloorOf (take end bs) (Err why) → Answers (verdict bs) (Err why)
 table_refused bs end NoMemory e h = tt
 table_refused bs end (Refused f) e h =
-    let same : end - 0 ≡ end = omega arith in
-    let no_table : held (take end bs) ≡ Err (told f) = sized_err (told f) (held (take end bs)) (h ∙ ap (λ k. sized (held (take k bs))) same) in
+    let no_table : held (take end bs) ≡ Err (told f) = sized_err (told f) (held (take end bs)) h in
     sym (from_end bs end e ∙ ap (λ r. and_then r (λ rd. book_verdict (site_of rd) (drop end bs))) no_table)
 
 -- the verdict on the book behind the table

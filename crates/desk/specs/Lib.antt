@@ -1,4 +1,5 @@
 pub mod Drills
+pub mod Failures
 pub mod Listings
 pub mod Made
 pub mod PlannedSites

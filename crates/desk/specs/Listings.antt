@@ -1,17 +1,15 @@
 -- The listing of a planned site, byte by byte.
-use Rattle.std.specs.Prelude.{◌≡◌, ℕ, zero, suc, List, ◌++◌, Ok, Err, Result}
+use Rattle.std.specs.Prelude.{◌≡◌, ℕ, zero, suc, List, ◌++◌, Result}
 use Rattle.site.specs.Arena.{Arena}
 use Rattle.planner.specs.Planned.{numbers, parts_counted}
 use Rattle.records.specs.Lines.{head_text, state_text}
+use Rattle.desk.specs.Made.{Done}
 use Rattle.desk.specs.PlannedSites.{own_leaves, own_replies}
 use Rattle.desk.specs.declared.failures.Failure.{Failure}
-use Rattle.desk.specs.declared.failures.Failure.TheVariants.{Refused, NoMemory}
 
 -- text was added behind what was there, or memory was wanting; nothing is refused
 abbrev pub AddedTo : List ℕ → List ℕ → List ℕ → Result (Unit {0}) Failure → Type 0
-AddedTo before text after (Ok x) = after ≡ before ++ text
-AddedTo before text after (Err (Refused f)) = ⊥
-AddedTo before text after (Err NoMemory) = Unit {0}
+AddedTo before text after r = Done (λ _. after ≡ before ++ text) r
 
 -- the head line of the planned site, and then the lines of its first k states
 abbrev pub lines_to : Arena → ℕ → List ℕ

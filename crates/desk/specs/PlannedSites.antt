@@ -1,13 +1,13 @@
 -- A planned site in memory of its own.
-use Rattle.std.specs.Prelude.{◌≡◌, ℕ, ◌*◌, List, replicate, Ok, Err, vec_items, Result}
+use Rattle.std.specs.Prelude.{◌≡◌, ℕ, ◌*◌, List, replicate, vec_items, Result}
 use Rattle.site.specs.Arena.{Arena}
 use Rattle.checker.specs.declared.leaves.Leaf.{Leaf}
 use Rattle.checker.specs.declared.leaves.Leaf.TheVariants.{Open}
 use Rattle.planner.specs.Choices.{leaves_written, replies_written}
 use Rattle.planner.specs.Planned.{numbers, parts_counted}
 use Rattle.records.specs.BookWritten.{book_bytes}
+use Rattle.desk.specs.Made.{Done}
 use Rattle.desk.specs.declared.failures.Failure.{Failure}
-use Rattle.desk.specs.declared.failures.Failure.TheVariants.{Refused, NoMemory}
 use Rattle.desk.specs.declared.planned.Plan.{Plan}
 
 -- the planned leaves, in memory of their own
@@ -24,6 +24,5 @@ own_book m = book_bytes m (own_leaves m) (own_replies m)
 
 -- a plan of the site, or want of memory; nothing is refused
 abbrev pub PlanOf : Arena → Result Plan Failure → Type 0
-PlanOf m (Ok p) = (vec_items p.leaves ≡ own_leaves m) × (vec_items p.replies ≡ own_replies m) × (p.counts ≡ parts_counted (numbers m) m.states)
-PlanOf m (Err (Refused f)) = ⊥
-PlanOf m (Err NoMemory) = Unit {0}
+PlanOf m r =
+    Done (λ p. (vec_items p.leaves ≡ own_leaves m) × (vec_items p.replies ≡ own_replies m) × (p.counts ≡ parts_counted (numbers m) m.states)) r

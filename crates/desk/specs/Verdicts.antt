@@ -1,8 +1,8 @@
 -- What checking a book as a reader does answers: a floor's table, and then its book.
-use Rattle.std.specs.Prelude.{◌≡◌, ℕ, ◌*◌, min, cond, List, length, take, drop, replicate, Ok, Err, Result, ◌==◌}
+use Rattle.std.specs.Prelude.{ℕ, ◌*◌, min, cond, List, length, take, drop, replicate, Ok, Err, Result, ◌==◌}
 use Rattle.site.specs.Arena.{Arena}
 use Rattle.site.specs.Laid.{laid}
-use Rattle.site.specs.Refusals.{Refusal, told, and_then}
+use Rattle.site.specs.Refusals.{Refusal, and_then}
 use Rattle.checker.specs.Checked.{checked}
 use Rattle.checker.specs.declared.leaves.Counts.{Counts}
 use Rattle.checker.specs.declared.leaves.Leaf.{Leaf}
@@ -11,8 +11,6 @@ use Rattle.records.specs.BookBytes.{BookRead}
 use Rattle.records.specs.BookRead.{book_read, spread}
 use Rattle.records.specs.TableBytes.{Read}
 use Rattle.desk.specs.ReadFloors.{held, site_of}
-use Rattle.desk.specs.declared.failures.Failure.{Failure}
-use Rattle.desk.specs.declared.failures.Failure.TheVariants.{Refused, NoMemory}
 
 -- the leaves and replies of a book that was read, in memory of their own
 abbrev pub read_leaves : Arena → BookRead → List Leaf
@@ -39,9 +37,3 @@ table_end bytes = ends_at (length bytes) (held bytes)
 abbrev pub verdict : List ℕ → Result Counts Refusal
 verdict bytes =
     and_then (table_end bytes) (λ end. and_then (held (take end bytes)) (λ rd. book_verdict (site_of rd) (drop end bytes)))
-
--- this value or this refusal; or want of memory
-abbrev pub Answers : {T : Type 0} → Result T Refusal → Result T Failure → Type 0
-Answers answer (Ok x) = Ok x ≡ answer
-Answers answer (Err (Refused f)) = Err (told f) ≡ answer
-Answers answer (Err NoMemory) = Unit {0}

@@ -8,14 +8,17 @@ use crate::failures::Failure;
 use crate::floors::read_floor;
 use crate::planned::plan_site;
 use records::book_writing::write_book;
+use records::table_size::MOST_STATES;
 use site::interface::Site;
-use site::tables::Table;
 use std::alloc::Global;
 
 // The bytes of a book's head, and of the longest leaf with its replies: an open one with 16 commands.
 const HEAD: usize = 3;
 
 const LONGEST_LEAF: usize = 37;
+
+// How many bytes the book of a floor that was read can have.
+pub const LONGEST_BOOK: usize = HEAD + LONGEST_LEAF * MOST_STATES;
 
 // Plans a site, checks the plan and writes its book.
 pub fn book_site<S: Site>(heap: Global, site: &S) -> Result<Vec<u8>, Failure>
@@ -38,6 +41,5 @@ pub fn book_floor(heap: Global, bytes: &[u8]) -> Result<Vec<u8>, Failure>
     ensures { Gives (of_floor bytes.now own_book) result }
 {
     let floor = read_floor(heap, bytes)?;
-    let table = Table::new(floor.states, floor.rows.as_slice(), floor.arrows.as_slice());
-    book_site(heap, &table)
+    book_site(heap, &floor.table())
 }

@@ -10,7 +10,7 @@ use checker::playing::play;
 use checker::runs::Run;
 use site::faults::Fault;
 use site::interface::Site;
-use std::alloc::Global;
+use std::alloc::{AllocError, Global};
 
 // What came of a list of calls: what each answered, the states of the run, the first first, and its record.
 #[derive(Drop)]
@@ -26,10 +26,9 @@ fn reach(states: &mut Vec<usize>, call: Call, state: usize) -> Result<(), Failur
 {
     match call {
         Call::Place { .. } => states.clear(),
-        Call::Book { .. } => {}
-        Call::Objection { .. } => {}
+        Call::Book { .. } | Call::Objection { .. } => {}
     }
-    states.extend_from_slice(&[state])?;
+    states.push(state).map_err(AllocError::from)?;
     Ok(())
 }
 
@@ -43,10 +42,9 @@ fn run_states(
     ensures { StatesOf (told_from [] calls.now (map answered answers.now)) result }
 {
     let mut states = Vec::new(heap);
-    for i in 0..calls.len() {
-        match answers[i] {
-            Ok(state) => reach(&mut states, calls[i], state)?,
-            Err(_) => {}
+    for (call, answer) in calls.iter().zip(answers) {
+        if let Ok(state) = answer {
+            reach(&mut states, *call, *state)?;
         }
     }
     Ok(states)

@@ -1,42 +1,46 @@
 // A floor that was read from bytes, in memory of its own.
-ghost use Rattle.std.specs.Prelude.{◌≡◌};
-ghost use Rattle.desk.specs.ReadFloors.{FloorOf};
+ghost use Rattle.std.specs.Prelude.{◌≡◌, length};
+ghost use Rattle.site.specs.Tables.{table};
+ghost use Rattle.desk.specs.ReadFloors.{FloorOf, floor_site};
 
 use crate::failures::Failure;
 use records::reading::read_table;
-use site::grades::Grade;
+use records::table_size::{MOST_ARROWS, MOST_STATES};
 use site::sheets::Row;
+use site::tables::Table;
 use std::alloc::Global;
 
-// The room that a table read from bytes can need.
-const MOST_STATES: usize = 1024;
+// How many bytes the longest table has: a head, a row for each state, and the arrows.
+pub const LONGEST_TABLE: usize = 3 + 4 * MOST_STATES + 3 * MOST_ARROWS;
 
-const MOST_ARROWS: usize = 16384;
-
-// The sheets of a floor; the first `states` rows and their arrows make its table.
+// The sheets of a floor: a row for each state, and their arrows.
 #[derive(Drop)]
 pub struct Floor {
-    pub states: usize,
     pub rows: Vec<Row>,
     pub arrows: Vec<u16>,
+}
+
+impl Floor {
+    // The table that the sheets make.
+    pub fn table(&self) -> Table<'_>
+        ensures { table (length result.rows.now) result.rows.now result.arrows.now ≡ floor_site self.now }
+    {
+        Table::new(
+            self.rows.len(),
+            self.rows.as_slice(),
+            self.arrows.as_slice(),
+        )
+    }
 }
 
 // Reads a floor's table.
 pub fn read_floor(heap: Global, bytes: &[u8]) -> Result<Floor, Failure>
     ensures { FloorOf bytes.now result }
 {
-    let blank = Row {
-        grade: Grade::Ordinary,
-        commands: 0,
-        events: 0,
-        first: 0,
-    };
-    let mut rows = vec![in heap; blank; MOST_STATES]?;
+    let mut rows = vec![in heap; Row::default(); MOST_STATES]?;
     let mut arrows = vec![in heap; 0u16; MOST_ARROWS]?;
     let size = read_table(bytes, rows.as_mut_slice(), arrows.as_mut_slice())?;
-    Ok(Floor {
-        states: size.states,
-        rows,
-        arrows,
-    })
+    rows.truncate(size.states);
+    arrows.truncate(size.arrows);
+    Ok(Floor { rows, arrows })
 }

@@ -8,21 +8,9 @@ use std::io::Read;
 pub fn read_input(rt: &HostRuntime, most: usize) -> io::Result<Vec<u8>>
     ensures { IfOk result (λ v. vec_len v ≤ most) }
 {
-    let mut bytes = vec![in rt.alloc(); 0u8; most]?;
-    let mut filled = 0usize;
-    let mut stdin = rt.stdin();
-    // each turn reads at least one byte
-    for _ in 0..most {
-        if filled >= bytes.len() {
-            break;
-        }
-        let part = bytes.as_mut_slice();
-        let got = stdin.read(&mut part[filled..])?;
-        if got == 0 {
-            break;
-        }
-        filled = filled.saturating_add(got);
-    }
-    bytes.truncate(filled);
+    let mut bytes = Vec::new(rt.alloc());
+    rt.stdin().take(most as u64).read_to_end(&mut bytes)?;
+    // `take` reads no more; what it says of itself is not in its contract, so the bound is kept here too
+    bytes.truncate(most);
     Ok(bytes)
 }

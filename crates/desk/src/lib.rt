@@ -7,5 +7,6 @@ pub mod failures;
 pub mod floors;
 pub mod input;
 pub mod listings;
+mod pairs;
 pub mod planned;
 pub mod verdicts;

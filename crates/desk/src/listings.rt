@@ -9,19 +9,16 @@ use crate::failures::Failure;
 use crate::floors::read_floor;
 use crate::planned::plan_site;
 use checker::leaves::{Counts, Leaf};
-use records::listing::{head_line, state_line};
+use records::listing::{LINE_ROOM, head_line, state_line};
 use site::interface::Site;
-use site::tables::Table;
 use std::alloc::Global;
 
-// The room that a line takes.
-const LINE: usize = 128;
-
-// Adds the first line, with the number of states and of each part.
+// Adds the first line, with the number of states and of each part. It and `add_line` are not one function that takes the
+// call as a closure: their contracts name the text, and a closure's would name what the closure promises.
 fn add_head(out: &mut Vec<u8>, states: usize, counts: Counts) -> Result<(), Failure>
     ensures { AddedTo out.old.items (head_text states counts.covered counts.«open») out.new.items result }
 {
-    let mut buffer = [0u8; LINE];
+    let mut buffer = [0u8; LINE_ROOM];
     let len = head_line(states, counts.covered, counts.open, &mut buffer)?;
     out.extend_from_slice(&buffer[0..len])?;
     Ok(())
@@ -40,7 +37,7 @@ fn add_line<S: Site>(
     requires state { s < (S.Site.arena site.now).states }
     ensures { AddedTo out.old.items (state_text (S.Site.arena site.now) leaves.now replies.now s) out.new.items result }
 {
-    let mut buffer = [0u8; LINE];
+    let mut buffer = [0u8; LINE_ROOM];
     let len = state_line(site, leaves, replies, s, &mut buffer)?;
     out.extend_from_slice(&buffer[0..len])?;
     Ok(())
@@ -71,6 +68,5 @@ pub fn list_floor(heap: Global, bytes: &[u8]) -> Result<Vec<u8>, Failure>
     ensures { Gives (of_floor bytes.now listing) result }
 {
     let floor = read_floor(heap, bytes)?;
-    let table = Table::new(floor.states, floor.rows.as_slice(), floor.arrows.as_slice());
-    list_site(heap, &table)
+    list_site(heap, &floor.table())
 }

@@ -3,13 +3,12 @@ ghost use Rattle.std.specs.Prelude.{◌≡◌};
 ghost use Rattle.desk.specs.PlannedSites.{PlanOf};
 
 use crate::failures::Failure;
-use checker::leaves::{Counts, Leaf, PLACES};
+use crate::pairs::blank_pair;
+use checker::leaves::{Counts, Leaf};
 use planner::certifying::certify;
+use planner::planning::ROWS;
 use site::interface::Site;
 use std::alloc::Global;
-
-// How many numbers of work planning asks for each state.
-const ROWS: usize = 4;
 
 // The leaves and replies of a site, and how many states are covered and open.
 #[derive(Drop)]
@@ -23,13 +22,8 @@ pub struct Plan {
 pub fn plan_site<S: Site>(heap: Global, site: &S) -> Result<Plan, Failure>
     ensures { PlanOf (S.Site.arena site.now) result }
 {
-    let states = site.states();
-    let mut leaves = vec![in heap; Leaf::Open {
-        first: 0,
-        second: 0
-    }; states]?;
-    let mut replies = vec![in heap; 0u8; PLACES * states]?;
-    let mut work = vec![in heap; 0u16; ROWS * states]?;
+    let (mut leaves, mut replies) = blank_pair(heap, site)?;
+    let mut work = vec![in heap; 0u16; ROWS * site.states()]?;
     let counts = certify(
         site,
         leaves.as_mut_slice(),

@@ -1,27 +1,23 @@
 // A book checked as a reader does before it loads it.
 ghost use Rattle.std.specs.Prelude.{◌≡◌, ◌≤◌, length, IfOk};
-ghost use Rattle.desk.specs.Verdicts.{Answers, book_verdict, table_end, verdict};
+ghost use Rattle.desk.specs.Made.{Answers};
+ghost use Rattle.desk.specs.Verdicts.{book_verdict, table_end, verdict};
 
 use crate::failures::Failure;
 use crate::floors::read_floor;
+use crate::pairs::blank_pair;
 use checker::checks::check;
-use checker::leaves::{Counts, Leaf, PLACES};
+use checker::leaves::Counts;
 use records::book_reading::read_book;
 use site::faults::Fault;
 use site::interface::Site;
-use site::tables::Table;
 use std::alloc::Global;
 
 // Reads a site's book and checks it.
 pub fn check_book<S: Site>(heap: Global, site: &S, book: &[u8]) -> Result<Counts, Failure>
     ensures { Answers (book_verdict (S.Site.arena site.now) book.now) result }
 {
-    let states = site.states();
-    let mut leaves = vec![in heap; Leaf::Open {
-        first: 0,
-        second: 0
-    }; states]?;
-    let mut replies = vec![in heap; 0u8; PLACES * states]?;
+    let (mut leaves, mut replies) = blank_pair(heap, site)?;
     read_book(site, book, leaves.as_mut_slice(), replies.as_mut_slice())?;
     let counts = check(site, leaves.as_slice(), replies.as_slice())?;
     Ok(counts)
@@ -45,7 +41,6 @@ pub fn check_floor_book(heap: Global, bytes: &[u8]) -> Result<Counts, Failure>
     ensures { Answers (verdict bytes.now) result }
 {
     let end = table_end(heap, bytes)?;
-    let floor = read_floor(heap, &bytes[0..end])?;
-    let table = Table::new(floor.states, floor.rows.as_slice(), floor.arrows.as_slice());
-    check_book(heap, &table, &bytes[end..])
+    let floor = read_floor(heap, &bytes[..end])?;
+    check_book(heap, &floor.table(), &bytes[end..])
 }

@@ -1,7 +1,9 @@
-use Rattle.std.proofs.Common.{◌≡◌, [], map, reverse, take, vec_items}
+use Rattle.std.proofs.Common.{◌≡◌, [], map, reverse, take, length, vec_items}
 use Rattle.site.specs.Refusals.{answered}
 use Rattle.desk.specs.Drills.{told_from}
 use Rattle.desk.proofs.drills.run_states.Given as goal
 
-abbrev pub invariant-loop-i : goal.invariant-loop-i
-invariant-loop-i l = vec_items l.states ≡ reverse (told_from [] (take l.i l.calls) (map answered (take l.i l.answers)))
+abbrev pub invariant-loop-call : goal.invariant-loop-call
+invariant-loop-call l =
+    let n = length l.yielded in
+    vec_items l.states ≡ reverse (told_from [] (take n l.calls) (map answered (take n l.answers)))

@@ -1,14 +1,9 @@
-use Rattle.std.proofs.Common.{◌≡◌, ◌++◌, length, take, drop, ap, ◌∙◌, arith}
+use Rattle.std.proofs.Common.{◌≡◌, length, take, ap, ◌∙◌, arith}
 use Rattle.std.proofs.lemmas.Result.{err_from_is_err_and}
-use Rattle.site.specs.Tables.{fair}
 use Rattle.records.specs.TableRead.{table_read, sized, rows_after, arrows_after}
 use Rattle.desk.proofs.Fitting.{whole}
+use Rattle.desk.proofs.Held.{fronts_held}
 use Rattle.desk.proofs.floors.read_floor.Goals as goal
-
-pub returns-in_err-arrows : goal.returns-in_err-arrows
-returns-in_err-arrows c =
-    let p = err_from_is_err_and c.from_residual-in_err-arrows.result c.from_residual-in_err-arrows.ensures.1 in
-    rw (p.1, p.2) tt
 
 pub returns-in_err-size : goal.returns-in_err-size
 returns-in_err-size c =
@@ -21,13 +16,15 @@ pub returns : goal.returns
 returns c =
     let bs = c.args.bytes.now in
     let e = c.in_ok-size.ensures in
+    let size = c.in_ok-size.size in
     let rows : length c.as_mut_slice.result.now ≡ 1024 = omega (arith, c.as_mut_slice.ensures.len, c.in_ok-rows.ensures.len) in
     let arrows : length c.as_mut_slice-2.result.now ≡ 16384 = omega (arith, c.as_mut_slice-2.ensures.len, c.in_ok-arrows.ensures.len) in
     let read : table_read bs (length c.as_mut_slice.result.now) (length c.as_mut_slice-2.result.now) ≡ table_read bs 1024 16384 = ap (λ n. table_read bs n (length c.as_mut_slice-2.result.now)) rows ∙ ap (table_read bs 1024) arrows in
     let row_sheet = whole c.read_table.new.rows c.in_ok-rows.rows.items c.in_ok-rows.rows.len (omega (arith, c.as_mut_slice.ensures.len)) in
-    let arrow_sheet = whole c.read_table.new.arrows c.in_ok-arrows.arrows.items c.in_ok-arrows.arrows.len (omega (arith, c.as_mut_slice-2.ensures.len)) in (
-      (c.in_ok-size.size.arrows, e.answer ∙ ap sized read),
-      row_sheet ∙ (e.row_sheet ∙ (ap (λ r. rows_after r c.as_mut_slice.result.now) read ∙ ap (rows_after (table_read bs 1024 16384)) (c.as_mut_slice.ensures.value ∙ c.in_ok-rows.ensures.items_if_clones_equal (λ y e. e)))),
-      arrow_sheet ∙ (e.arrow_sheet ∙ (ap (λ r. arrows_after r c.as_mut_slice-2.result.now) read ∙ ap (arrows_after (table_read bs 1024 16384)) (c.as_mut_slice-2.ensures.value ∙ c.in_ok-arrows.ensures.items_if_clones_equal (λ y e. e)))),
-      ap (λ rs. fair c.in_ok-size.size.states rs (take c.in_ok-arrows.arrows.len (c.read_table.new.arrows ++ drop (length c.read_table.new.arrows) c.in_ok-arrows.arrows.items))) row_sheet ∙ (ap (fair c.in_ok-size.size.states c.read_table.new.rows) arrow_sheet ∙ e.fair_sheets),
-    )
+    let arrow_sheet = whole c.read_table.new.arrows c.in_ok-arrows.arrows.items c.in_ok-arrows.arrows.len (omega (arith, c.as_mut_slice-2.ensures.len)) in
+    let held = fronts_held bs c.default.result size.states size.arrows c.read_table.new.rows c.read_table.new.arrows (e.answer ∙ ap sized read)
+    (e.row_sheet ∙ (ap (λ r. rows_after r c.as_mut_slice.result.now) read ∙ ap (rows_after (table_read bs 1024 16384)) (c.as_mut_slice.ensures.value ∙ c.in_ok-rows.ensures.items_if_clones_equal (λ y e. e))))
+    (e.arrow_sheet ∙ (ap (λ r. arrows_after r c.as_mut_slice-2.result.now) read ∙ ap (arrows_after (table_read bs 1024 16384)) (c.as_mut_slice-2.ensures.value ∙ c.in_ok-arrows.ensures.items_if_clones_equal (λ y e. e)))) in
+    let own_rows = c.truncate.ensures.items ∙ ap (take size.states) row_sheet in
+    let own_arrows = c.truncate-2.ensures.items ∙ ap (take size.arrows) arrow_sheet in
+    rw (own_rows, own_arrows) held

@@ -1,4 +1,4 @@
-use Rattle.std.proofs.Common.{◌≡◌, ◌*◌, length, replicate, ap, ◌∙◌, arith}
+use Rattle.std.proofs.Common.{◌≡◌, ◌*◌, length, replicate, ◌∙◌, arith}
 use Rattle.checker.specs.declared.leaves.Leaf.TheVariants.{Open}
 use Rattle.desk.proofs.Fitting.{whole, leaves_fit, replies_fit, counts_fit, same_ok}
 use Rattle.desk.proofs.planned.plan_site.Goals as goal
@@ -10,10 +10,10 @@ returns g c =
     let leaves = c.as_mut_slice.result.now in
     let replies = c.as_mut_slice-2.result.now in
     let work = length c.as_mut_slice-3.result.now in
-    let ls : leaves ≡ replicate m.states (Open 0 0) = c.as_mut_slice.ensures.value ∙ (c.in_ok-leaves.ensures.items_if_clones_equal (λ y e. e) ∙ ap (λ n. replicate n (Open 0 0)) c.states-states.ensures) in
-    let rs : replies ≡ replicate (16 * m.states) 0 = c.as_mut_slice-2.ensures.value ∙ (c.in_ok-replies.ensures.items_if_clones_equal (λ y e. e) ∙ ap (λ n. replicate (16 * n) 0) c.states-states.ensures) in
-    let ws : work ≡ 4 * m.states = omega (arith, c.as_mut_slice-3.ensures.len, c.in_ok-work.ensures.len, c.states-states.ensures) in (
+    let ls : leaves ≡ replicate m.states (Open 0 0) = c.as_mut_slice.ensures.value ∙ c.in_ok-leaves.ensures.leaves in
+    let rs : replies ≡ replicate (16 * m.states) 0 = c.as_mut_slice-2.ensures.value ∙ c.in_ok-leaves.ensures.replies in
+    let ws : work ≡ 4 * m.states = omega (arith, c.as_mut_slice-3.ensures.len, c.in_ok-work.ensures.len, c.states.ensures) in (
       whole c.certify.new.leaves c.in_ok-leaves.leaves.items c.in_ok-leaves.leaves.len (omega (arith, c.as_mut_slice.ensures.len)) ∙ (e.leaves ∙ leaves_fit m leaves replies work ls rs ws),
-      whole c.certify.new.replies c.in_ok-replies.replies.items c.in_ok-replies.replies.len (omega (arith, c.as_mut_slice-2.ensures.len)) ∙ (e.replies ∙ replies_fit m leaves replies work ls rs ws),
+      whole c.certify.new.replies c.in_ok-leaves.replies.items c.in_ok-leaves.replies.len (omega (arith, c.as_mut_slice-2.ensures.len)) ∙ (e.replies ∙ replies_fit m leaves replies work ls rs ws),
       same_ok (e.outcome ∙ counts_fit m leaves replies work ls rs ws),
     )

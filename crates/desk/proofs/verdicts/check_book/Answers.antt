@@ -1,4 +1,4 @@
-use Rattle.std.proofs.Common.{◌≡◌, ◌*◌, replicate, ap, ◌∙◌, arith}
+use Rattle.std.proofs.Common.{◌≡◌, ◌*◌, replicate, ◌∙◌, arith}
 use Rattle.std.proofs.lemmas.Result.{err_from_is_err_and}
 use Rattle.checker.specs.declared.leaves.Leaf.TheVariants.{Open}
 use Rattle.desk.proofs.Fitting.{whole}
@@ -10,9 +10,9 @@ returns-in_err-counts g c =
     let m = g.S.Site.arena c.args.site.now in
     let e = c.in_ok-read_book.ensures in
     let leaves = c.as_slice.ensures.value ∙ whole c.read_book.new.leaves c.in_ok-leaves.leaves.items c.in_ok-leaves.leaves.len (omega (arith, c.as_mut_slice.ensures.len)) in
-    let replies = c.as_slice-2.ensures.value ∙ whole c.read_book.new.replies c.in_ok-replies.replies.items c.in_ok-replies.replies.len (omega (arith, c.as_mut_slice-2.ensures.len)) in
-    let blank : c.as_mut_slice.result.now ≡ replicate m.states (Open 0 0) = c.as_mut_slice.ensures.value ∙ (c.in_ok-leaves.ensures.items_if_clones_equal (λ y e. e) ∙ ap (λ n. replicate n (Open 0 0)) c.states-states.ensures) in
-    let zeros : c.as_mut_slice-2.result.now ≡ replicate (16 * m.states) 0 = c.as_mut_slice-2.ensures.value ∙ (c.in_ok-replies.ensures.items_if_clones_equal (λ y e. e) ∙ ap (λ n. replicate (16 * n) 0) c.states-states.ensures) in
+    let replies = c.as_slice-2.ensures.value ∙ whole c.read_book.new.replies c.in_ok-leaves.replies.items c.in_ok-leaves.replies.len (omega (arith, c.as_mut_slice-2.ensures.len)) in
+    let blank : c.as_mut_slice.result.now ≡ replicate m.states (Open 0 0) = c.as_mut_slice.ensures.value ∙ c.in_ok-leaves.ensures.leaves in
+    let zeros : c.as_mut_slice-2.result.now ≡ replicate (16 * m.states) 0 = c.as_mut_slice-2.ensures.value ∙ c.in_ok-leaves.ensures.replies in
     let p = err_from_is_err_and c.from_residual-in_err-counts.result c.from_residual-in_err-counts.ensures.1 in
     rw (p.1, p.2) (c.in_err-counts.ensures.outcome ∙ book_checked m c.args.book.now c.in_ok-read_book.field-0 c.as_slice.result.now c.as_mut_slice.result.now c.as_slice-2.result.now c.as_mut_slice-2.result.now blank zeros e.answer (leaves ∙ e.leaf_sheet) (replies ∙ e.reply_sheet))
 
@@ -21,7 +21,7 @@ returns g c =
     let m = g.S.Site.arena c.args.site.now in
     let e = c.in_ok-read_book.ensures in
     let leaves = c.as_slice.ensures.value ∙ whole c.read_book.new.leaves c.in_ok-leaves.leaves.items c.in_ok-leaves.leaves.len (omega (arith, c.as_mut_slice.ensures.len)) in
-    let replies = c.as_slice-2.ensures.value ∙ whole c.read_book.new.replies c.in_ok-replies.replies.items c.in_ok-replies.replies.len (omega (arith, c.as_mut_slice-2.ensures.len)) in
-    let blank : c.as_mut_slice.result.now ≡ replicate m.states (Open 0 0) = c.as_mut_slice.ensures.value ∙ (c.in_ok-leaves.ensures.items_if_clones_equal (λ y e. e) ∙ ap (λ n. replicate n (Open 0 0)) c.states-states.ensures) in
-    let zeros : c.as_mut_slice-2.result.now ≡ replicate (16 * m.states) 0 = c.as_mut_slice-2.ensures.value ∙ (c.in_ok-replies.ensures.items_if_clones_equal (λ y e. e) ∙ ap (λ n. replicate (16 * n) 0) c.states-states.ensures) in
+    let replies = c.as_slice-2.ensures.value ∙ whole c.read_book.new.replies c.in_ok-leaves.replies.items c.in_ok-leaves.replies.len (omega (arith, c.as_mut_slice-2.ensures.len)) in
+    let blank : c.as_mut_slice.result.now ≡ replicate m.states (Open 0 0) = c.as_mut_slice.ensures.value ∙ c.in_ok-leaves.ensures.leaves in
+    let zeros : c.as_mut_slice-2.result.now ≡ replicate (16 * m.states) 0 = c.as_mut_slice-2.ensures.value ∙ c.in_ok-leaves.ensures.replies in
     c.in_ok-counts.ensures.outcome ∙ book_checked m c.args.book.now c.in_ok-read_book.field-0 c.as_slice.result.now c.as_mut_slice.result.now c.as_slice-2.result.now c.as_mut_slice-2.result.now blank zeros e.answer (leaves ∙ e.leaf_sheet) (replies ∙ e.reply_sheet)
