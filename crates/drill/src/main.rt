@@ -6,31 +6,19 @@ mod script;
 
 use crate::problems::Problem;
 use crate::script::read_script;
-use anyhow::anyhow;
 use checker::calls::Call;
 use checker::runs::Run;
 use desk::drills::drill_site;
 use desk::floors::read_floor;
 use site::faults::Fault;
-use site::interface::Site;
-use site::tables::Table;
 use std::process::ExitCode;
 use std::{env, fs};
 
 // Prints what one call answered.
 fn show(rt: &HostRuntime, call: Call, answer: Result<usize, Fault>) -> Result<(), Problem> {
-    match call {
-        Call::Place { state } => print!(rt; "place {state}: ")?,
-        Call::Book { event } => print!(rt; "book {event}: ")?,
-        Call::Objection { command } => print!(rt; "objection {command}: ")?,
-    }
     match answer {
-        Ok(state) => println!(rt; "state {state}")?,
-        Err(fault) => {
-            let number = fault.number();
-            let place = fault.place();
-            println!(rt; "refused {number} at {place}")?;
-        }
+        Ok(state) => println!(rt; "{call}: state {state}")?,
+        Err(fault) => println!(rt; "{call}: {fault}")?,
     }
     Ok(())
 }
@@ -63,8 +51,7 @@ fn show_record(rt: &HostRuntime, run: Run) -> Result<(), Problem> {
 fn drill(rt: &HostRuntime, bytes: &[u8]) -> Result<(), Problem> {
     let calls = read_script(rt)?;
     let floor = read_floor(rt.alloc(), bytes)?;
-    let table = Table::new(floor.states, floor.rows.as_slice(), floor.arrows.as_slice());
-    let drill = drill_site(rt.alloc(), &table, calls.as_slice())?;
+    let drill = drill_site(rt.alloc(), &floor.table(), calls.as_slice())?;
     for (call, answer) in calls.as_slice().iter().zip(drill.answers.as_slice()) {
         show(rt, *call, *answer)?;
     }
@@ -85,18 +72,10 @@ fn run(rt: &HostRuntime) -> Result<(), Problem> {
 fn main(rt: HostRuntime) -> anyhow::Result<ExitCode> {
     match run(&rt) {
         Ok(()) => Ok(ExitCode::SUCCESS),
-        Err(Problem::Refused(fault)) => {
-            let number = fault.number();
-            let place = fault.place();
-            println!(rt; "refused {number} at {place}")?;
+        Err(problem) if problem.is_refusal() => {
+            println!(rt; "{problem}")?;
             Ok(ExitCode::FAILURE)
         }
-        Err(Problem::BadLine(line)) => {
-            println!(rt; "line {line} is no call: write place, book or objection and a number")?;
-            Ok(ExitCode::FAILURE)
-        }
-        Err(Problem::NoFloor) => Err(anyhow!("usage: drill FLOOR < SCRIPT")),
-        Err(Problem::NoMemory) => Err(anyhow!("out of memory")),
-        Err(Problem::NoInput) => Err(anyhow!("the floor or the script cannot be read")),
+        Err(problem) => Err(problem.into()),
     }
 }

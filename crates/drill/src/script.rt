@@ -4,16 +4,14 @@ ghost use Rattle.drill.specs.Script.{NumberAfter, CallIn};
 
 use crate::problems::Problem;
 use checker::calls::Call;
+use std::alloc::AllocError;
 
 // The number after the word, if the line is the word, a blank and a number.
 fn number_after(line: &str, word: &str) -> Option<usize>
     ensures { NumberAfter word.now line.now result }
 {
     let rest = line.strip_prefix(word)?;
-    match rest.parse::<usize>() {
-        Ok(number) => Some(number),
-        Err(_) => None,
-    }
+    rest.parse::<usize>().ok()
 }
 
 // The call in a line, if there is one.
@@ -35,16 +33,12 @@ fn parse_call(line: &str) -> Option<Call>
 // All calls of the script on standard input; a line without one is named by its number.
 pub(crate) fn read_script(rt: &HostRuntime) -> Result<Vec<Call>, Problem> {
     let mut calls = Vec::new(rt.alloc());
-    let mut at = 0usize;
-    for line in rt.lines(rt.alloc()) {
+    for (before, line) in rt.lines(rt.alloc()).enumerate() {
         let line = line?;
-        at = at.saturating_add(1);
         let Some(call) = parse_call(line.as_str()) else {
-            return Err(Problem::BadLine(at));
+            return Err(Problem::BadLine(before.saturating_add(1)));
         };
-        if calls.push(call).is_err() {
-            return Err(Problem::NoMemory);
-        }
+        calls.push(call).map_err(AllocError::from)?;
     }
     Ok(calls)
 }
