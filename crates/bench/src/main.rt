@@ -4,14 +4,15 @@
 mod sites;
 
 use crate::sites::{Sheets, ladder, random};
-use checker::leaves::Leaf;
+use checker::leaves::{Leaf, PLACES};
 use drift::drifts::Drift;
 use planner::certifying::certify;
+use planner::planning::ROWS;
 use site::grades::Grade;
 use site::interface::Site;
 use site::tables::Table;
-use std::env;
 use std::time::Instant;
+use std::{array, env};
 use watch::piles::Watched;
 use watch::watches::Watch;
 
@@ -35,8 +36,8 @@ fn time<S: Site>(rt: &HostRuntime, name: &str, site: &S) -> anyhow::Result<()> {
         first: 0,
         second: 0
     }; states]?;
-    let mut replies = vec![in rt.alloc(); 0u8; states.saturating_mul(16)]?;
-    let mut work = vec![in rt.alloc(); 0u16; states.saturating_mul(4)]?;
+    let mut replies = vec![in rt.alloc(); 0u8; states.saturating_mul(PLACES)]?;
+    let mut work = vec![in rt.alloc(); 0u16; states.saturating_mul(ROWS)]?;
     let start = Instant::now(rt)?;
     let sum = pass(site);
     let one = start.elapsed(rt)?.as_micros();
@@ -48,10 +49,7 @@ fn time<S: Site>(rt: &HostRuntime, name: &str, site: &S) -> anyhow::Result<()> {
         work.as_mut_slice(),
     );
     let all = start.elapsed(rt)?.as_micros();
-    let covered = match planned {
-        Ok(counts) => counts.covered,
-        Err(_) => 0,
-    };
+    let covered = planned.map_or(0, |counts| counts.covered);
     let ratio = all / one.max(1);
     println!(rt;
         "{name}: states {states} covered {covered} pass {one} us plan {all} us ratio {ratio} sum {sum}"
@@ -71,17 +69,15 @@ fn time_table(rt: &HostRuntime, name: &str, sheets: &Sheets) -> anyhow::Result<(
 
 // A watch with so many positions that turns to the next at every doubted state.
 fn watch(positions: u8) -> Watch {
-    let mut turns = [0u8; 24];
-    let mut shows = [0u8; 24];
-    for p in 0..8u8 {
-        let at = p as usize * 3;
-        let next = if p + 1 < positions { p + 1 } else { 0 };
-        turns[at] = p % positions.max(1);
-        turns[at + 1] = next;
-        turns[at + 2] = p % positions.max(1);
-        shows[at + 1] = 1;
-        shows[at + 2] = 2;
-    }
+    let turns = array::from_fn(|i| {
+        let p = (i / 3) as u8;
+        match i % 3 {
+            1 if p + 1 < positions => p + 1,
+            1 => 0,
+            _ => p % positions.max(1),
+        }
+    });
+    let shows = array::from_fn(|i| (i % 3) as u8);
     let mut watch = Watch::new();
     let _ = watch.set(positions as usize, turns, shows);
     watch

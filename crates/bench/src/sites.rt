@@ -2,11 +2,9 @@
 ghost use Rattle.std.specs.Prelude.{◌<◌};
 
 use site::grades::Grade;
+use site::interface::MOST_STATES;
 use site::sheets::Row;
 use std::alloc::{AllocError, Global};
-
-// How many states the large sites have.
-pub(crate) const STATES: usize = 8192;
 
 // The sheets of a table.
 #[derive(Drop)]
@@ -19,7 +17,7 @@ pub struct Sheets {
 pub(crate) fn ladder(heap: Global, end: Grade, step: Grade) -> Result<Sheets, AllocError> {
     let mut rows = Vec::new(heap);
     let mut arrows = Vec::new(heap);
-    for s in 0..STATES {
+    for s in 0..MOST_STATES {
         let grade = if s == 0 { end } else { step };
         rows.push(Row {
             grade,
@@ -32,7 +30,7 @@ pub(crate) fn ladder(heap: Global, end: Grade, step: Grade) -> Result<Sheets, Al
     Ok(Sheets { rows, arrows })
 }
 
-// The next number of a simple generator.
+// The next number of a simple generator; the tests have the same, for their inputs, which may not change.
 fn next_random(seed: u64) -> u64 {
     seed.wrapping_mul(6364136223846793005)
         .wrapping_add(1442695040888963407)
@@ -51,7 +49,7 @@ pub(crate) fn random(heap: Global, start: u64) -> Result<Sheets, AllocError> {
     let mut arrows = Vec::new(heap);
     let mut seed = start;
     let mut first = 0u32;
-    for _ in 0..STATES {
+    for _ in 0..MOST_STATES {
         seed = next_random(seed);
         let grade = match below(seed, 3) {
             0 => Grade::Confirmed,
@@ -70,7 +68,7 @@ pub(crate) fn random(heap: Global, start: u64) -> Result<Sheets, AllocError> {
         })?;
         for _ in 0..commands.saturating_mul(events) {
             seed = next_random(seed);
-            arrows.push(below(seed, 8192) as u16)?;
+            arrows.push(below(seed, MOST_STATES as u64) as u16)?;
         }
         first = first.saturating_add(commands as u32 * events as u32);
     }

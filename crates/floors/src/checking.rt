@@ -1,15 +1,13 @@
 // The check on floor B's pair, and on pairs that are wrong in one place.
 use crate::samples::{ARROWS, LEAVES, ROWS};
+use crate::told::told;
 use checker::checks::check as check_pair;
 use checker::leaves::{Leaf, consult};
 use site::tables::Table;
 
-// What the check answers: the refusal's number and place, or 0 and how many states are covered.
-fn answer(leaves: &[Leaf], replies: &[u8]) -> (usize, usize) {
-    match check_pair(&Table::new(4, &ROWS, &ARROWS), leaves, replies) {
-        Ok(counts) => (0, counts.covered),
-        Err(fault) => (fault.number(), fault.place()),
-    }
+// What the check answers: how many states are covered, or the refusal's number and place.
+fn answer(leaves: &[Leaf], replies: &[u8]) -> Result<usize, (usize, usize)> {
+    told(check_pair(&Table::new(4, &ROWS, &ARROWS), leaves, replies)).map(|counts| counts.covered)
 }
 
 // Floor B's leaves with another leaf at one state.
@@ -23,9 +21,9 @@ fn with(s: usize, leaf: Leaf) -> [Leaf; 4] {
 
 #[test]
 fn accepts_floor_b(rt: HostRuntime) {
-    assert!(rt; answer(&LEAVES, &[0u8; 64]) == (0, 3));
-    assert!(rt; answer(&LEAVES[0..3], &[0u8; 64]) == (9, 4));
-    assert!(rt; answer(&LEAVES, &[0u8; 63]) == (9, 64));
+    assert!(rt; answer(&LEAVES, &[0u8; 64]) == Ok(3));
+    assert!(rt; answer(&LEAVES[0..3], &[0u8; 64]) == Err((9, 4)));
+    assert!(rt; answer(&LEAVES, &[0u8; 63]) == Err((9, 64)));
 }
 
 #[test]
@@ -40,7 +38,7 @@ fn refuses_wrong_numbers(rt: HostRuntime) {
                 },
             ),
             &[0u8; 64],
-        ) == (13, 2)
+        ) == Err((13, 2))
     );
     assert!(rt;
         answer(
@@ -52,7 +50,7 @@ fn refuses_wrong_numbers(rt: HostRuntime) {
                 },
             ),
             &[0u8; 64],
-        ) == (11, 0)
+        ) == Err((11, 0))
     );
     assert!(rt;
         answer(
@@ -64,7 +62,7 @@ fn refuses_wrong_numbers(rt: HostRuntime) {
                 },
             ),
             &[0u8; 64],
-        ) == (11, 3)
+        ) == Err((11, 3))
     );
     assert!(rt;
         answer(
@@ -76,7 +74,7 @@ fn refuses_wrong_numbers(rt: HostRuntime) {
                 },
             ),
             &[0u8; 64],
-        ) == (11, 3)
+        ) == Err((11, 3))
     );
 }
 
@@ -92,11 +90,11 @@ fn refuses_wrong_moves_and_parts(rt: HostRuntime) {
                 },
             ),
             &[0u8; 64],
-        ) == (10, 1)
+        ) == Err((10, 1))
     );
     let mut replies = [0u8; 64];
     replies[48] = 1;
-    assert!(rt; answer(&LEAVES, &replies) == (10, 3));
+    assert!(rt; answer(&LEAVES, &replies) == Err((10, 3)));
     assert!(rt;
         answer(
             &with(
@@ -107,7 +105,7 @@ fn refuses_wrong_moves_and_parts(rt: HostRuntime) {
                 },
             ),
             &[0u8; 64],
-        ) == (12, 0)
+        ) == Err((12, 0))
     );
     assert!(rt;
         answer(
@@ -119,7 +117,7 @@ fn refuses_wrong_moves_and_parts(rt: HostRuntime) {
                 },
             ),
             &[0u8; 64],
-        ) == (13, 1)
+        ) == Err((13, 1))
     );
     assert!(rt;
         answer(
@@ -131,7 +129,7 @@ fn refuses_wrong_moves_and_parts(rt: HostRuntime) {
                 },
             ),
             &[0u8; 64],
-        ) == (13, 3)
+        ) == Err((13, 3))
     );
 }
 

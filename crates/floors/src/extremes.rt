@@ -4,20 +4,13 @@ use checker::leaves::Leaf;
 use records::book_reading::read_book;
 use records::reading::read_table;
 use records::writing::write_table;
-use site::grades::Grade;
 use site::sheets::Row;
 use site::tables::Table;
 use std::alloc::Global;
 use std::test::Fail;
 
-const BLANK: Row = Row {
-    grade: Grade::Ordinary,
-    commands: 0,
-    events: 0,
-    first: 0,
-};
-
-// The next number of a simple generator.
+// The next number of a simple generator, of which the tests' inputs are made: they may not change. The benchmark has the
+// same.
 fn next_random(seed: u64) -> u64 {
     seed.wrapping_mul(6364136223846793005)
         .wrapping_add(1442695040888963407)
@@ -31,7 +24,8 @@ fn longest(heap: Global) -> Result<Vec<u8>, Fail> {
         bytes.extend_from_slice(&[0x02, (s % 3) as u8, 4, 4])?;
         for i in 0..16usize {
             let aim = (s + i) % 1024;
-            bytes.extend_from_slice(&[0x03, (aim / 256) as u8, (aim % 256) as u8])?;
+            let [high, low] = (aim as u16).to_be_bytes();
+            bytes.extend_from_slice(&[0x03, high, low])?;
         }
     }
     Ok(bytes)
@@ -41,7 +35,7 @@ fn longest(heap: Global) -> Result<Vec<u8>, Fail> {
 fn reads_and_writes_the_longest_table(rt: HostRuntime) -> Result<(), Fail> {
     let bytes = longest(rt.alloc())?;
     assert!(rt; bytes.len() == 53251);
-    let mut rows = vec![in rt.alloc(); BLANK; 1024]?;
+    let mut rows = vec![in rt.alloc(); Row::default(); 1024]?;
     let mut arrows = vec![in rt.alloc(); 0u16; 16384]?;
     let size = read_table(bytes.as_slice(), rows.as_mut_slice(), arrows.as_mut_slice())?;
     assert!(rt; size.states == 1024 && size.arrows == 16384);
@@ -56,7 +50,7 @@ fn reads_and_writes_the_longest_table(rt: HostRuntime) -> Result<(), Fail> {
 #[test]
 fn answers_random_bytes(rt: HostRuntime) -> Result<(), Fail> {
     let mut seed = 7u64;
-    let mut rows = vec![in rt.alloc(); BLANK; 1024]?;
+    let mut rows = vec![in rt.alloc(); Row::default(); 1024]?;
     let mut arrows = vec![in rt.alloc(); 0u16; 16384]?;
     for _ in 0..2000usize {
         let mut bytes = [0u8; 24];
@@ -66,10 +60,10 @@ fn answers_random_bytes(rt: HostRuntime) -> Result<(), Fail> {
         }
         bytes[0] = 1;
         bytes[1] = 0;
-        let number = match read_table(&bytes, rows.as_mut_slice(), arrows.as_mut_slice()) {
-            Ok(_) => 1,
-            Err(fault) => fault.number(),
-        };
+        let number = read_table(&bytes, rows.as_mut_slice(), arrows.as_mut_slice()).map_or_else(
+            |fault| fault.number(),
+            |_| 1,
+        );
         assert!(rt; number >= 1 && number <= 8);
         let mut leaves = [Leaf::Open {
             first: 0,
@@ -77,15 +71,13 @@ fn answers_random_bytes(rt: HostRuntime) -> Result<(), Fail> {
         }; 4];
         let mut replies = [0u8; 64];
         bytes[0] = 17;
-        let number = match read_book(
+        let number = read_book(
             &Table::new(4, &ROWS, &ARROWS),
             &bytes,
             &mut leaves,
             &mut replies,
-        ) {
-            Ok(_) => 1,
-            Err(fault) => fault.number(),
-        };
+        )
+        .map_or_else(|fault| fault.number(), |_| 1);
         assert!(rt; number >= 1 && number <= 8);
     }
     Ok(())

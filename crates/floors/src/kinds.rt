@@ -1,4 +1,5 @@
 // Drift sites, watches and piles of them: the known figures and the edges of the ranges.
+use crate::told::told;
 use checker::leaves::Leaf;
 use drift::drifts::Drift;
 use planner::certifying::certify;
@@ -60,12 +61,8 @@ fn drifts_at_the_edges(rt: HostRuntime) -> Result<(), Fail> {
     assert!(rt; site.next(16, 1, 2) == 18 && site.next(16, 1, 5) == 18);
     assert!(rt; site.next(18, 0, 1) == 8 && site.next(17, 1, 0) == 17);
     assert!(rt; site.next(19, 0, 0) == 0 && site.next(8, 2, 0) == 0 && site.next(8, 0, 6) == 0);
-    assert!(rt;
-        matches!(site.grade(17), Grade::Doubted) && matches!(site.grade(18), Grade::Confirmed)
-    );
-    assert!(rt;
-        matches!(site.grade(16), Grade::Ordinary) && matches!(site.grade(19), Grade::Confirmed)
-    );
+    assert!(rt; site.grade(17) == Grade::Doubted && site.grade(18) == Grade::Confirmed);
+    assert!(rt; site.grade(16) == Grade::Ordinary && site.grade(19) == Grade::Confirmed);
     Ok(())
 }
 
@@ -120,11 +117,6 @@ fn fits_up_to_the_limit(rt: HostRuntime) -> Result<(), Fail> {
     let pile = Watched::new(Watched::new(drift(1, 7)?, wide), wide);
     assert!(rt; pile.states() == 1104);
     assert!(rt; fits(&drift(1, 7)?, &wide) == Ok(1104));
-    assert!(rt;
-        match fits(&Watched::new(drift(1, 7)?, wide), &wide) {
-            Ok(_) => false,
-            Err(fault) => fault.number() == 19 && fault.place() == 8832,
-        }
-    );
+    assert!(rt; told(fits(&Watched::new(drift(1, 7)?, wide), &wide)) == Err((19, 8832)));
     Ok(())
 }

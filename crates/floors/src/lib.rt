@@ -14,9 +14,13 @@ mod kinds;
 #[cfg(test)]
 mod listing;
 #[cfg(test)]
+mod printing;
+#[cfg(test)]
 mod reading;
 #[cfg(test)]
 mod running;
 #[cfg(test)]
 mod samples;
+#[cfg(test)]
+mod told;
 pub mod worked;

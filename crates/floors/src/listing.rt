@@ -13,13 +13,6 @@ use std::alloc::Global;
 use std::process::Abort;
 use std::test::Fail;
 
-const BLANK: Row = Row {
-    grade: Grade::Ordinary,
-    commands: 0,
-    events: 0,
-    first: 0,
-};
-
 // Adds a line that was written into a buffer.
 fn add(
     rt: &impl Abort,
@@ -35,7 +28,7 @@ fn add(
 
 // The listing of a floor of at most eight states.
 fn listed(rt: &impl Abort, heap: Global, bytes: &[u8]) -> Result<Vec<u8>, Fail> {
-    let mut rows = [BLANK; 8];
+    let mut rows = [Row::default(); 8];
     let mut arrows = [0u16; 32];
     let size = read_table(bytes, &mut rows, &mut arrows)?;
     let table = Table::new(size.states, &rows, &arrows);
@@ -117,10 +110,10 @@ fn broken_sheets_rest(rt: HostRuntime) {
         first: 0,
     }];
     assert!(rt; Table::new(1, &rows, &[0]).states() == 1);
-    assert!(rt; matches!(Table::new(1, &rows, &[0]).grade(0), Grade::Doubted));
-    assert!(rt; matches!(Table::new(1, &rows, &[1]).grade(0), Grade::Ordinary));
-    assert!(rt; matches!(Table::new(2, &rows, &[0]).grade(0), Grade::Ordinary));
-    assert!(rt; matches!(Table::new(0, &rows, &[0]).grade(0), Grade::Ordinary));
-    assert!(rt; matches!(Table::new(1, &rows, &[]).grade(0), Grade::Ordinary));
+    assert!(rt; Table::new(1, &rows, &[0]).grade(0) == Grade::Doubted);
+    assert!(rt; Table::new(1, &rows, &[1]).grade(0) == Grade::Ordinary);
+    assert!(rt; Table::new(2, &rows, &[0]).grade(0) == Grade::Ordinary);
+    assert!(rt; Table::new(0, &rows, &[0]).grade(0) == Grade::Ordinary);
+    assert!(rt; Table::new(1, &rows, &[]).grade(0) == Grade::Ordinary);
     assert!(rt; Table::new(1, &rows, &[0]).next(0, 1, 0) == 0);
 }
