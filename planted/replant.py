@@ -132,6 +132,9 @@ def public_functions(crate):
     for _, lines in sources(os.path.join(ROOT, "crates", crate, "src")):
         owner = impl = ""
         for line in lines:
+            # an impl that is empty ends on its own line
+            if re.match(r"impl\b.*\{\}$", line):
+                continue
             of_trait = re.match(r"impl(?:<[^>]*>)? (\w+)(?:<(?:\w+::)?(\w+)>)? for (\w+)", line)
             own = re.match(r"impl(?:<[^>]*>)? (\w+)", line)
             if of_trait:
