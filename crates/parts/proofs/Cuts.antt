@@ -11,7 +11,7 @@ use Rattle.parts.proofs.Lowest.{lowest_passes}
 use Rattle.parts.proofs.Steps.{some_at}
 
 -- the marks of the numbers that the first k states have
-abbrev Marked : List ℕ → ℕ → List ℕ → Type 0
+abbrev pub Marked : List ℕ → ℕ → List ℕ → Type 0
 Marked xs k marks = (v : ℕ) → v < length marks → at marks v ≡ cond (some (λ s. eqb (at xs s) v) k) 1 0
 
 -- a row that was raised above the lowest unmarked number is cut

@@ -70,7 +70,7 @@ module _ (m : Arena) (lawful : Lawful m) where
   not_holds_in U s s< =
       not_holds m (has U) s ∙ blocks_agree (λ t. not (has U t)) (has (other m.states U)) (λ t lt. sym (region_has m.states (λ s. not (has U s)) t lt)) s s<
 
-  F_dual : (X Y Z : Region) → other m.states (F m X Y Z) ≡ G m (other m.states X) (other m.states Y) (other m.states Z)
+  pub F_dual : (X Y Z : Region) → other m.states (F m X Y Z) ≡ G m (other m.states X) (other m.states Y) (other m.states Z)
   F_dual X Y Z =
       region_same m.states _ _ (λ s s<.
       ap not (region_has m.states _ s s<)
@@ -103,13 +103,13 @@ abbrev pub remain : Arena → ℕ → Region
 remain m i = iterate i (limit m) (all m.states)
 
 module _ (m : Arena) (lawful : Lawful m) where
-  limit_dual : (U : Region) → other m.states (limit m U) ≡ greatest m.states (λ Y. least m.states (G m (other m.states U) Y))
+  pub limit_dual : (U : Region) → other m.states (limit m U) ≡ greatest m.states (λ Y. least m.states (G m (other m.states U) Y))
   limit_dual U =
       least_dual m.states (λ Y. greatest m.states (F m U Y)) (λ Y. least m.states (G m (other m.states U) Y)) (λ Y.
       greatest_dual m.states (F m U Y) (G m (other m.states U) (other m.states Y)) (F_dual m lawful U Y))
 
   -- the stages are what the phases have taken out
-  stage_is : (i : ℕ) → stage m i ≡ other m.states (remain m i)
+  pub stage_is : (i : ℕ) → stage m i ≡ other m.states (remain m i)
   stage_is i =
       sym (iterate_dual m.states (limit m) (λ X. greatest m.states (λ Y. least m.states (G m X Y))) limit_dual i (all m.states) ∙ ap (iterate i (λ X. greatest m.states (λ Y. least m.states (G m X Y)))) (other_all m.states))
 

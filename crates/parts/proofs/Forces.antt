@@ -37,7 +37,7 @@ module _ (m : Arena) (U : ℕ → Bool) (s : ℕ) where
   blocks_is h a lt =
       some_one (λ b. U (m.next s a b)) (m.events s) (every_at (λ a. some (λ b. U (m.next s a b)) (m.events s)) (m.commands s) a h lt)
 
-  blocks_from : ((a : ℕ) → a < m.commands s → (b : ℕ) × (b < m.events s) × (U (m.next s a b) ≡ true)) → blocks m U s ≡ true
+  pub blocks_from : ((a : ℕ) → a < m.commands s → (b : ℕ) × (b < m.events s) × (U (m.next s a b) ≡ true)) → blocks m U s ≡ true
   blocks_from h =
       every_from (λ a. some (λ b. U (m.next s a b)) (m.events s)) (m.commands s) (λ a lt. let w = h a lt in some_at (λ b. U (m.next s a b)) (m.events s) w.0 w.2 w.1)
 
@@ -55,10 +55,10 @@ by_grade_mono (suc zero) x y z x' y' z' p q r h = q h
 by_grade_mono (suc (suc g)) x y z x' y' z' p q r h = r h
 
 module _ (m : Arena) where
-  F_size : (X Y Z : Region) → Sized m.states (F m X Y Z)
+  pub F_size : (X Y Z : Region) → Sized m.states (F m X Y Z)
   F_size X Y Z = region_length m.states _
 
-  G_size : (X Y Z : Region) → Sized m.states (G m X Y Z)
+  pub G_size : (X Y Z : Region) → Sized m.states (G m X Y Z)
   G_size X Y Z = region_length m.states _
 
   pub F_mono : (X Y Z X' Y' Z' : Region) → Within X X' → Within Y Y' → Within Z Z' → Within (F m X Y Z) (F m X' Y' Z')

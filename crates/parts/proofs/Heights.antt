@@ -44,7 +44,7 @@ module _ (m : Arena) (top : ℕ) (x : ℕ → ℕ) (s : ℕ) where
         | inr ge ↦ let here : b ≡ e = omega arith in rw here (omega arith)
       ]
 
-  best_le : (a c v : ℕ) → a < c → ((b : ℕ) → b < m.events s → x (m.next s a b) ≤ v) → best m top x s c ≤ v
+  pub best_le : (a c v : ℕ) → a < c → ((b : ℕ) → b < m.events s → x (m.next s a b) ≤ v) → best m top x s c ≤ v
   best_le a zero v lt h = absurd (omega arith)
   best_le a (suc c) v lt h =
       elim (cases_lt a c) [
@@ -52,7 +52,7 @@ module _ (m : Arena) (top : ℕ) (x : ℕ → ℕ) (s : ℕ) where
         | inr ge ↦ let here : a ≡ c = omega arith in omega (arith, rw here at (worst_le a (m.events s) v h))
       ]
 
-  best_is : (c v : ℕ) → best m top x s c ≤ v → v < top → (a : ℕ) × (a < c) × ((b : ℕ) → b < m.events s → x (m.next s a b) ≤ v)
+  pub best_is : (c v : ℕ) → best m top x s c ≤ v → v < top → (a : ℕ) × (a < c) × ((b : ℕ) → b < m.events s → x (m.next s a b) ≤ v)
   best_is zero v h lt = absurd (omega arith)
   best_is (suc c) v h lt =
       elim (cases_lt v (best m top x s c)) [
@@ -62,7 +62,7 @@ module _ (m : Arena) (top : ℕ) (x : ℕ → ℕ) (s : ℕ) where
 
 module _ (m : Arena) (lawful : Lawful m) (U : Region) where
   -- a level is its own F
-  level_F : (k : ℕ) → F m U (level m U k) (level m U (suc k)) ≡ level m U (suc k)
+  pub level_F : (k : ℕ) → F m U (level m U k) (level m U (suc k)) ≡ level m U (suc k)
   level_F k = greatest_fixed m.states (F m U (level m U k)) (F_grows m U (level m U k))
 
   pub level_below : (k s : ℕ) → has (level m U (suc k)) s ≡ true → s < m.states

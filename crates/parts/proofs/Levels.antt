@@ -14,7 +14,7 @@ use Rattle.parts.proofs.Regions.{Within, has_below, region_has, region_length, w
 abbrev pub limit : Arena → Region → Region
 limit m U = least m.states (λ Y. greatest m.states (F m U Y))
 
-level_limit : (m : Arena) (U : Region) → level m U m.states ≡ limit m U
+pub level_limit : (m : Arena) (U : Region) → level m U m.states ≡ limit m U
 unfolding least
 level_limit m U = refl
 
@@ -83,7 +83,7 @@ module _ (m : Arena) (lawful : Lawful m) (U : Region) where
       rising_least m.states (λ Y. greatest m.states (F m U Y)) (levels_grow m U) (suc (height m U s)) s (height_in m U s lt)
 
 -- a smaller region has higher heights
-level_mono : (m : Arena) (U V : Region) → Within U V → (k : ℕ) → Within (level m U k) (level m V k)
+pub level_mono : (m : Arena) (U V : Region) → Within U V → (k : ℕ) → Within (level m U k) (level m V k)
 level_mono m U V w zero = λ s e. e
 level_mono m U V w (suc k) =
     greatest_mono m.states (F m U (level m U k)) (F m V (level m V k)) (F_grows m U (level m U k)) (F_grows m V (level m V k)) (λ Z. F_mono m U (level m U k) Z V (level m V k) Z w (level_mono m U V w k) (λ s e. e))

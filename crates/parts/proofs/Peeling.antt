@@ -21,7 +21,7 @@ module _ (m : Arena) (lawful : Lawful m) where
   stage_fixed : (i : ℕ) → least m.states (G m (stage m i) (stage m (suc i))) ≡ stage m (suc i)
   stage_fixed i = greatest_fixed m.states (λ Y. least m.states (G m (stage m i) Y)) (rounds_grow m (stage m i))
 
-  stage_G : (i : ℕ) → G m (stage m i) (stage m (suc i)) (stage m (suc i)) ≡ stage m (suc i)
+  pub stage_G : (i : ℕ) → G m (stage m i) (stage m (suc i)) (stage m (suc i)) ≡ stage m (suc i)
   stage_G i =
       ap (G m (stage m i) (stage m (suc i))) (sym (stage_fixed i))
       ∙ (least_fixed m.states (G m (stage m i) (stage m (suc i))) (G_grows m (stage m i) (stage m (suc i))) ∙ stage_fixed i)
@@ -115,7 +115,7 @@ abbrev pub Under : Arena → ℕ → List ℕ → Type 0
 Under m i ranks = (s : ℕ) → s < m.states → at ranks s ≤ height m (remain m i) s
 
 -- and after
-abbrev Settled : Arena → ℕ → List ℕ → Type 0
+abbrev pub Settled : Arena → ℕ → List ℕ → Type 0
 Settled m i ranks = (s : ℕ) → s < m.states → at ranks s ≡ height m (remain m i) s
 
 module _ (m : Arena) (lawful : Lawful m) where
@@ -130,7 +130,7 @@ module _ (m : Arena) (lawful : Lawful m) where
 
   module _ (i : ℕ) (i≤ : i ≤ m.states) (firsts : List ℕ) (peeled : Peeled m i firsts) where
     -- the states without a number are those that remain
-    unnumbered_is : (s : ℕ) → s < m.states → unnumbered firsts s ≡ has (remain m i) s
+    pub unnumbered_is : (s : ℕ) → s < m.states → unnumbered firsts s ≡ has (remain m i) s
     unnumbered_is s lt =
         elim (cases_Bool (has (stage m i) s)) [
           | inl t ↦
@@ -144,7 +144,7 @@ module _ (m : Arena) (lawful : Lawful m) where
         ap (λ b. by_grade (m.grade s) (cond b 0 (top_of m)) (min (top_of m) (best m (top_of m) x s (m.commands s) + 1)) (best m (top_of m) x s (m.commands s))) (holds_agree m lawful (unnumbered firsts) (has (remain m i)) unnumbered_is s lt)
 
     -- lifting to the end gives the heights
-    settled : (before after : List ℕ) → Under m i before → Raised m (top_of m) (unnumbered firsts) before after → Calm m (top_of m) (unnumbered firsts) (at after) → Settled m i after
+    pub settled : (before after : List ℕ) → Under m i before → Raised m (top_of m) (unnumbered firsts) before after → Calm m (top_of m) (unnumbered firsts) (at after) → Settled m i after
     settled before after under raised calm s lt =
         let high : Calm m (top_of m) (unnumbered firsts) (height m (remain m i)) = λ t t<. omega (arith, value_is (height m (remain m i)) t t<, height_calm m lawful (remain m i) t t<) in
         let low : Calm m (top_of m) (has (remain m i)) (at after) = λ t t<. omega (arith, value_is (at after) t t<, calm t t<) in
@@ -223,7 +223,7 @@ module _ (m : Arena) (lawful : Lawful m) where
             }
 
         -- a phase that found a state: on to the next
-        peeled_more : some (lost (top_of m) ranks firsts) m.states ≡ true → Peeled m (i + 1) after × Under m (i + 1) ranks × (i + 1 ≤ m.states)
+        pub peeled_more : some (lost (top_of m) ranks firsts) m.states ≡ true → Peeled m (i + 1) after × Under m (i + 1) ranks × (i + 1 ≤ m.states)
         peeled_more any =
             let w = some_one (lost (top_of m) ranks firsts) m.states any in
             rw add-one (peeled_next, (λ s lt. omega (arith, done s lt, height_mono m (remain m (suc i)) (remain m i) (falling m.states (limit m) (covers_grow m) i) s)), (added_first w.0 (lost_added w.0 w.1 w.2)).1)
@@ -258,7 +258,7 @@ module _ (m : Arena) (lawful : Lawful m) where
           in_stage : (s : ℕ) → s < m.states → has (covered m) s ≡ false → has (stage m i) s ≡ true
           in_stage s lt f = not-false (has (stage m i) s) (sym (covered_stage s lt) ∙ f)
 
-          peeled_all : FirstRow m i after × RankRow m ranks
+          pub peeled_all : FirstRow m i after × RankRow m ranks
           unfolding rank
           peeled_all = (
             record {

@@ -12,13 +12,13 @@ use Rattle.parts.proofs.Backing.{backed_more}
 use Rattle.parts.proofs.Steps.{best_top}
 
 -- a fact of each of the three choices is a fact of the choice by grade
-by_grade_all : (P : ℕ → Type 0) (g x y z : ℕ) → P x → P y → P z → P (by_grade g x y z)
+pub by_grade_all : (P : ℕ → Type 0) (g x y z : ℕ) → P x → P y → P z → P (by_grade g x y z)
 by_grade_all P zero x y z p q r = p
 by_grade_all P (suc zero) x y z p q r = q
 by_grade_all P (suc (suc g)) x y z p q r = r
 
 -- and so for a relation of two choices by one grade
-by_grade_both : (R : ℕ → ℕ → Type 0) (g x y z x' y' z' : ℕ) → R x x' → R y y' → R z z' → R (by_grade g x y z) (by_grade g x' y' z')
+pub by_grade_both : (R : ℕ → ℕ → Type 0) (g x y z x' y' z' : ℕ) → R x x' → R y y' → R z z' → R (by_grade g x y z) (by_grade g x' y' z')
 by_grade_both R zero x y z x' y' z' p q r = p
 by_grade_both R (suc zero) x y z x' y' z' p q r = q
 by_grade_both R (suc (suc g)) x y z x' y' z' p q r = r
@@ -36,7 +36,7 @@ module _ (m : Arena) (lawful : Lawful m) (top : ℕ) (U : ℕ → Bool) where
   best_mono x y le s (suc a) s< a≤ =
       omega (arith, best_mono x y le s a s< (omega arith), worst_mono x y le s a (m.events s) s< (omega arith) (omega arith))
 
-  value_mono : (x y : ℕ → ℕ) → ((t : ℕ) → t < m.states → x t ≤ y t) → (s : ℕ) → s < m.states → value m top U x s ≤ value m top U y s
+  pub value_mono : (x y : ℕ → ℕ) → ((t : ℕ) → t < m.states → x t ≤ y t) → (s : ℕ) → s < m.states → value m top U x s ≤ value m top U y s
   value_mono x y le s s< =
       let b = best_mono x y le s (m.commands s) s< (omega arith) in
       by_grade_both (λ v w. v ≤ w) (m.grade s) _ _ _ _ _ _ (omega arith) (omega arith) b
@@ -59,7 +59,7 @@ module _ (m : Arena) (lawful : Lawful m) (top : ℕ) (U : ℕ → Bool) where
       }
 
   -- one state raised to what it asks for
-  raised_more : (before xs : List ℕ) (s v : ℕ) → Raised m top U before xs → s < m.states → s < length xs → v ≡ value m top U (at xs) s → at xs s < v → Raised m top U before (set xs s v)
+  pub raised_more : (before xs : List ℕ) (s v : ℕ) → Raised m top U before xs → s < m.states → s < length xs → v ≡ value m top U (at xs) s → at xs s < v → Raised m top U before (set xs s v)
   raised_more before xs s v r s< in< e lt =
       record {
         rises = λ k. elim (cases_eq k s) [
@@ -78,7 +78,7 @@ module _ (m : Arena) (lawful : Lawful m) (top : ℕ) (U : ℕ → Bool) where
       }
 
 -- raising a state leaves less room
-slack_less : (top : ℕ) (xs : List ℕ) (s v : ℕ) → s < length xs → at xs s < v → v ≤ top → slack top (set xs s v) < slack top xs
+pub slack_less : (top : ℕ) (xs : List ℕ) (s v : ℕ) → s < length xs → at xs s < v → v ≤ top → slack top (set xs s v) < slack top xs
 slack_less top [] s v in< lt le = absurd (omega arith)
 slack_less top (x ∷ xs) zero v in< lt le = omega arith
 slack_less top (x ∷ xs) (suc s) v in< lt le = omega (arith, slack_less top xs s v (omega arith) lt le)
@@ -88,7 +88,7 @@ pub visit_below : (way : Direction) (n k : ℕ) → k < n → visit way n k < n
 visit_below Up n k lt = lt
 visit_below Down n k lt = omega arith
 
-visit_back : (way : Direction) (n k : ℕ) → k < n → visit way n (visit way n k) ≡ k
+pub visit_back : (way : Direction) (n k : ℕ) → k < n → visit way n (visit way n k) ≡ k
 visit_back Up n k lt = refl
 visit_back Down n k lt = omega arith
 

@@ -54,7 +54,7 @@ region_same n p q h =
     (region_within n p q (λ s lt e. sym (h s lt) ∙ e))
     (region_within n q p (λ s lt e. h s lt ∙ e))
 
-all_has : (n s : ℕ) → s < n → has (all n) s ≡ true
+pub all_has : (n s : ℕ) → s < n → has (all n) s ≡ true
 all_has n s lt = region_has n (λ _. true) s lt
 
 pub nothing_has : (n s : ℕ) → has (nothing n) s ≡ true → ⊥
@@ -62,10 +62,10 @@ nothing_has n s e =
     let lt = has_below n (nothing n) (region_length n (λ _. false)) s e in
     both_ways (has (nothing n) s) (region_has n (λ _. false) s lt) e
 
-within_all : (n : ℕ) (U : Region) → Sized n U → Within U (all n)
+pub within_all : (n : ℕ) (U : Region) → Sized n U → Within U (all n)
 within_all n U size s e = all_has n s (has_below n U size s e)
 
-nothing_within : (n : ℕ) (U : Region) → Within (nothing n) U
+pub nothing_within : (n : ℕ) (U : Region) → Within (nothing n) U
 nothing_within n U s e = absurd (nothing_has n s e)
 
 -- is one region within another: a search says yes, or names a state that is not
@@ -86,7 +86,7 @@ within_or n U V size = elim (go n) [ inl h ↦ inl (λ s e. h s (has_below n U s
       ]
 
 -- counting the members of regions
-count_mono : (p q : ℕ → Bool) (n : ℕ) → ((s : ℕ) → s < n → p s ≡ true → q s ≡ true) → count p n ≤ count q n
+pub count_mono : (p q : ℕ → Bool) (n : ℕ) → ((s : ℕ) → s < n → p s ≡ true → q s ≡ true) → count p n ≤ count q n
 count_mono p q zero h = omega arith
 count_mono p q (suc n) h =
     let below = count_mono p q n (λ s lt. h s (omega arith)) in

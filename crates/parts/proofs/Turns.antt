@@ -29,7 +29,7 @@ module _ (m : Arena) (lawful : Lawful m) (i : ℕ) where
   pub round_grows : Growing m.states (G m (stage m i) (stage m (suc i)))
   round_grows = G_grows m (stage m i) (stage m (suc i))
 
-  round_end : least m.states (G m (stage m i) (stage m (suc i))) ≡ stage m (suc i)
+  pub round_end : least m.states (G m (stage m i) (stage m (suc i))) ≡ stage m (suc i)
   round_end = greatest_fixed m.states (λ Y. least m.states (G m (stage m i) Y)) (rounds_grow m (stage m i))
 
   pub round_last : round m i m.states ≡ stage m (suc i)
@@ -80,7 +80,7 @@ module _ (m : Arena) (lawful : Lawful m) (i : ℕ) where
     go (suc (suc g)) e = eq-eqb (m.grade t) 2 (omega (arith, e, lawful.few_grades t))
 
   -- a round that adds a state comes before the last
-  added_turn : (j s : ℕ) → j ≤ m.states → Added (round m i j) (round m i (suc j)) s → (turn m i s ≡ j) × (j < m.states)
+  pub added_turn : (j s : ℕ) → j ≤ m.states → Added (round m i j) (round m i (suc j)) s → (turn m i s ≡ j) × (j < m.states)
   unfolding turn least
   added_turn j s j≤ added =
       let less : j < m.states = elim (cases_eq j m.states) [
@@ -117,7 +117,7 @@ module _ (m : Arena) (lawful : Lawful m) (many : ℕ) (firsts : List ℕ) (row :
   covered_not : (s : ℕ) → s < m.states → has (covered m) s ≡ not (has (stage m m.states) s)
   covered_not s lt = ap (λ U. has U s) (covered_remain m lawful) ∙ remain_not m lawful m.states s lt
 
-  upto_stage : (s : ℕ) → s < m.states → leb (at firsts s) i ≡ has (stage m (suc i)) s
+  pub upto_stage : (s : ℕ) → s < m.states → leb (at firsts s) i ≡ has (stage m (suc i)) s
   unfolding first
   upto_stage s lt =
       elim (cases_Bool (has (covered m) s)) [

@@ -12,7 +12,7 @@ use Rattle.parts.proofs.Regions.{Within, Growing, within_both, greatest_in, grea
 use Rattle.parts.proofs.Turns.{round_last}
 
 -- the greatest fixed point of a growing operator, as the words have it
-greatest_is : (n : ℕ) (f : Region → Region) → Growing n f → Greatest n (λ Z. Z ≡ f Z) (greatest n f)
+pub greatest_is : (n : ℕ) (f : Region → Region) → Growing n f → Greatest n (λ Z. Z ≡ f Z) (greatest n f)
 greatest_is n f grow =
     record {
       size = greatest_size n f grow;
@@ -20,7 +20,7 @@ greatest_is n f grow =
       most = λ V size e. greatest_in n f grow V size (λ s h. subst (λ U. has U s ≡ true) e h);
     }
 
-least_is : (n : ℕ) (f : Region → Region) → Growing n f → Least n (λ Z. Z ≡ f Z) (least n f)
+pub least_is : (n : ℕ) (f : Region → Region) → Growing n f → Least n (λ Z. Z ≡ f Z) (least n f)
 least_is n f grow =
     record {
       size = least_size n f grow;
@@ -55,7 +55,7 @@ module _ (m : Arena) where
         fewest = λ Y size h. least_out m.states _ (levels_grow m X) Y (λ s e. subst (λ U. has U s ≡ true) (inner_fixed X Y h) e);
       }
 
-  covered_words : Greatest m.states (λ X. Least m.states (λ Y. Greatest m.states (λ Z. Z ≡ F m X Y Z) Y) X) (covered m)
+  pub covered_words : Greatest m.states (λ X. Least m.states (λ Y. Greatest m.states (λ Z. Z ≡ F m X Y Z) Y) X) (covered m)
   unfolding covered
   covered_words =
       record {
@@ -64,7 +64,7 @@ module _ (m : Arena) where
         most = λ X size h. greatest_in m.states (limit m) (covers_grow m) X size (λ s e. subst (λ U. has U s ≡ true) (least_one m.states (λ Y. Greatest m.states (λ Z. Z ≡ F m X Y Z) Y) X (limit m X) h (limit_is X)) e);
       }
 
-  stage_words : (X : Region) → Greatest m.states (λ Y. Least m.states (λ Z. Z ≡ G m X Y Z) Y) (greatest m.states (λ Y. least m.states (G m X Y)))
+  pub stage_words : (X : Region) → Greatest m.states (λ Y. Least m.states (λ Z. Z ≡ G m X Y Z) Y) (greatest m.states (λ Y. least m.states (G m X Y)))
   stage_words X =
       let f : Region → Region = λ Y. least m.states (G m X Y) in
       let top = greatest m.states f in
