@@ -1,11 +1,12 @@
--- A floor that was read from bytes: the table in them, as sheets in memory of their own.
-use Rattle.std.specs.Prelude.{◌≡◌, ℕ, true, List, length, Ok, Err, vec_items, Result}
+-- A floor that was read from bytes: the table in them, on sheets of its own with room for every table.
+use Rattle.std.specs.Prelude.{◌≡◌, ℕ, true, List, length, take, replicate, Ok, Err, vec_items, Result}
 use Rattle.site.specs.Arena.{Arena}
 use Rattle.site.specs.Refusals.{Refusal, told, and_then}
 use Rattle.site.specs.Tables.{fair, made_from}
+use Rattle.site.specs.declared.grades.Grade.TheVariants.{Ordinary}
 use Rattle.site.specs.declared.sheets.Row.{Row}
 use Rattle.records.specs.TableBytes.{Read}
-use Rattle.records.specs.TableRead.{table_read, sized}
+use Rattle.records.specs.TableRead.{table_read, sized, rows_after, arrows_after}
 use Rattle.desk.specs.declared.failures.Failure.{Failure}
 use Rattle.desk.specs.declared.failures.Failure.TheVariants.{Refused, NoMemory}
 use Rattle.desk.specs.declared.floors.Floor.{Floor}
@@ -28,13 +29,19 @@ sheets_in r = and_then r (λ rd. Ok (rd.rows, rd.arrows))
 
 -- the site that a floor's sheets stand for
 abbrev pub floor_site : Floor → Arena
-floor_site f = made_from (length (vec_items f.rows)) (vec_items f.rows) (vec_items f.arrows)
+floor_site f = made_from f.states (vec_items f.rows) (vec_items f.arrows)
 
--- the floor that the bytes hold: the rows and arrows of the table in them, and none beyond, and they make a table; or
--- the refusal of the bytes; or want of memory
+-- a row of a new sheet
+abbrev pub blank : Row
+blank = record { grade = Ordinary; commands = 0; events = 0; first = 0 }
+
+-- the floor that the bytes hold: what reading lays over new sheets, whose fronts are just the rows and arrows of the
+-- table in the bytes, and sheets that make a table; or reading's refusal; or want of memory
 abbrev pub FloorOf : List ℕ → Result Floor Failure → Type 0
 FloorOf bs (Ok f) =
-    (Ok (vec_items f.rows, vec_items f.arrows) ≡ sheets_in (held bs))
-    × (fair (length (vec_items f.rows)) (vec_items f.rows) (vec_items f.arrows) ≡ true)
+    ((arrows : ℕ) × (Ok (record { states = f.states; arrows = arrows }) ≡ sized (held bs)) × (Ok (take f.states (vec_items f.rows), take arrows (vec_items f.arrows)) ≡ sheets_in (held bs)))
+    × (vec_items f.rows ≡ rows_after (held bs) (replicate 1024 blank))
+    × (vec_items f.arrows ≡ arrows_after (held bs) (replicate 16384 0))
+    × (fair f.states (vec_items f.rows) (vec_items f.arrows) ≡ true)
 FloorOf bs (Err (Refused fault)) = Err (told fault) ≡ sized (held bs)
 FloorOf bs (Err NoMemory) = Unit {0}

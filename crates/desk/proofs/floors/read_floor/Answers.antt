@@ -1,8 +1,9 @@
-use Rattle.std.proofs.Common.{◌≡◌, length, take, ap, ◌∙◌, arith}
+use Rattle.std.proofs.Common.{◌≡◌, length, replicate, ap, ◌∙◌, arith}
 use Rattle.std.proofs.lemmas.Result.{err_from_is_err_and}
 use Rattle.records.specs.TableRead.{table_read, sized, rows_after, arrows_after}
 use Rattle.desk.proofs.Fitting.{whole}
-use Rattle.desk.proofs.Held.{fronts_held}
+use Rattle.desk.specs.ReadFloors.{blank}
+use Rattle.desk.proofs.Held.{blank_row, fronts_held}
 use Rattle.desk.proofs.floors.read_floor.Goals as goal
 
 pub returns-in_err-size : goal.returns-in_err-size
@@ -22,9 +23,9 @@ returns c =
     let read : table_read bs (length c.as_mut_slice.result.now) (length c.as_mut_slice-2.result.now) ≡ table_read bs 1024 16384 = ap (λ n. table_read bs n (length c.as_mut_slice-2.result.now)) rows ∙ ap (table_read bs 1024) arrows in
     let row_sheet = whole c.read_table.new.rows c.in_ok-rows.rows.items c.in_ok-rows.rows.len (omega (arith, c.as_mut_slice.ensures.len)) in
     let arrow_sheet = whole c.read_table.new.arrows c.in_ok-arrows.arrows.items c.in_ok-arrows.arrows.len (omega (arith, c.as_mut_slice-2.ensures.len)) in
-    let held = fronts_held bs c.default.result size.states size.arrows c.read_table.new.rows c.read_table.new.arrows (e.answer ∙ ap sized read)
-    (e.row_sheet ∙ (ap (λ r. rows_after r c.as_mut_slice.result.now) read ∙ ap (rows_after (table_read bs 1024 16384)) (c.as_mut_slice.ensures.value ∙ c.in_ok-rows.ensures.items_if_clones_equal (λ y e. e))))
-    (e.arrow_sheet ∙ (ap (λ r. arrows_after r c.as_mut_slice-2.result.now) read ∙ ap (arrows_after (table_read bs 1024 16384)) (c.as_mut_slice-2.ensures.value ∙ c.in_ok-arrows.ensures.items_if_clones_equal (λ y e. e)))) in
-    let own_rows = c.truncate.ensures.items ∙ ap (take size.states) row_sheet in
-    let own_arrows = c.truncate-2.ensures.items ∙ ap (take size.arrows) arrow_sheet in
-    rw (own_rows, own_arrows) held
+    let d = c.default.ensures in
+    let new_rows : c.as_mut_slice.result.now ≡ replicate 1024 blank = c.as_mut_slice.ensures.value ∙ (c.in_ok-rows.ensures.items_if_clones_equal (λ y e. e) ∙ ap (replicate 1024) (blank_row c.default.result (d.0, d.1.0, d.1.1.0, d.1.1.1))) in
+    let read_rows : c.read_table.new.rows ≡ rows_after (table_read bs 1024 16384) (replicate 1024 blank) = e.row_sheet ∙ (ap (λ r. rows_after r c.as_mut_slice.result.now) read ∙ ap (rows_after (table_read bs 1024 16384)) new_rows) in
+    let read_arrows = e.arrow_sheet ∙ (ap (λ r. arrows_after r c.as_mut_slice-2.result.now) read ∙ ap (arrows_after (table_read bs 1024 16384)) (c.as_mut_slice-2.ensures.value ∙ c.in_ok-arrows.ensures.items_if_clones_equal (λ y e. e))) in
+    let held = fronts_held bs blank size.states size.arrows c.read_table.new.rows c.read_table.new.arrows (e.answer ∙ ap sized read) read_rows read_arrows in
+    rw (row_sheet, arrow_sheet) ((size.arrows, e.answer ∙ ap sized read, held.0), read_rows, read_arrows, e.fair_sheets)
