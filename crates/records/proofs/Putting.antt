@@ -1,7 +1,8 @@
 -- Pieces of text that a pen writes, one after the other.
-use Rattle.std.proofs.Common.{◌≡◌, ℕ, ◌+◌, ◌-◌, ◌^◌, ◌<◌, ◌≤◌, List, [], ◌++◌, length, get_or, take, drop, decimal, sym, refl, ap, ◌∙◌, add-zero, add_assoc, arith}
+use Rattle.std.proofs.Common.{◌≡◌, ℕ, ◌+◌, ◌-◌, ◌/◌, ◌%◌, ◌^◌, ◌<◌, ◌≤◌, List, [], ◌∷◌, ◌++◌, length, get_or, take, drop, decimal, sym, refl, ap, ◌∙◌, add-zero, add_assoc, arith}
 use Rattle.std.specs.List.{flat_map}
-use Rattle.std.proofs.lemmas.Fmt.{length-decimal-le}
+use Rattle.std.proofs.Math.Nat.{mod-eq_of_lt}
+use Rattle.std.proofs.lemmas.Fmt.{decimal_digit, decimal_step, length-decimal-le}
 use Rattle.std.proofs.lemmas.List.{append_assoc, take_more, length-append, flat_map_more, drop-drop}
 use borrow.Rule.Slice.PartMut.{put_mid}
 use Rattle.site.specs.Laid.{laid}
@@ -35,6 +36,21 @@ pub piece_put : {start mid end : Pen} (piece : ℕ → List ℕ) (xs : List ℕ)
 piece_put piece xs i lt p q =
     let more : flat_map piece (take (i + 1) xs) ≡ flat_map piece (take i xs) ++ piece (get_or xs i 0) = ap (flat_map piece) (take_more xs i 0 lt) ∙ sym (flat_map_more piece [] (take i xs) (get_or xs i 0)) in
     rw more (put_then p q)
+
+-- the digits of a number of one digit, of two, three and four
+pub one_digit : (n : ℕ) → n < 10 → decimal n ≡ (48 + n % 10) ∷ []
+one_digit n lt = decimal_digit n lt ∙ ap (λ k. (48 + k) ∷ []) (sym (mod-eq_of_lt lt))
+
+pub two_digits : (n : ℕ) → 10 ≤ n → n < 100 → n < 2 ^ 64 → decimal n ≡ (48 + n / 10 % 10) ∷ ((48 + n % 10) ∷ [])
+two_digits n le lt fits = decimal_step n le fits ∙ ap (λ xs. xs ++ (48 + n % 10) ∷ []) (one_digit (n / 10) (omega arith))
+
+pub three_digits : (n : ℕ) → 100 ≤ n → n < 1000 → n < 2 ^ 64 → decimal n ≡ (48 + n / 10 / 10 % 10) ∷ ((48 + n / 10 % 10) ∷ ((48 + n % 10) ∷ []))
+three_digits n le lt fits =
+    decimal_step n (omega arith) fits ∙ ap (λ xs. xs ++ (48 + n % 10) ∷ []) (two_digits (n / 10) (omega arith) (omega arith) (omega arith))
+
+pub four_digits : (n : ℕ) → 1000 ≤ n → n < 10000 → n < 2 ^ 64 → decimal n ≡ (48 + n / 10 / 10 / 10 % 10) ∷ ((48 + n / 10 / 10 % 10) ∷ ((48 + n / 10 % 10) ∷ ((48 + n % 10) ∷ [])))
+four_digits n le lt fits =
+    decimal_step n (omega arith) fits ∙ ap (λ xs. xs ++ (48 + n % 10) ∷ []) (three_digits (n / 10) (omega arith) (omega arith) (omega arith))
 
 -- no number has more than 20 digits
 pub few_digits : (n : ℕ) → n < 2 ^ 64 → length (decimal n) ≤ 20

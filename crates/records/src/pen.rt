@@ -1,8 +1,15 @@
 // A pen writes text and numbers into a buffer, each after what it wrote before.
-ghost use Rattle.std.specs.Prelude.{◌≡◌, ◌+◌, ◌<◌, length, decimal};
+ghost use Rattle.std.specs.Prelude.{◌≡◌, ◌+◌, ◌%◌, ◌<◌, length, decimal};
 ghost use Rattle.records.specs.Lines.{field};
 ghost use Rattle.records.specs.Pens.{Fits, Wrote, Short};
 ghost use Rattle.records.specs.TableWritten.{numbered};
+
+// The last decimal digit of a number.
+fn digit(number: usize) -> u8
+    ensures { result ≡ 48 + number % 10 }
+{
+    b'0' + (number % 10) as u8
+}
 
 // The buffer, and the place of the next byte.
 #[derive(Drop)]
@@ -38,13 +45,30 @@ impl<'a> Pen<'a> {
         self.at = end;
     }
 
-    // The number in decimal digits.
+    // The number in decimal digits. Up to four, as nearly all have, go straight into the buffer: by way of another one a
+    // line takes up to twice as long.
     pub(crate) fn number(&mut self, number: usize)
         requires { Fits (length (decimal number)) self.old }
         ensures short { Short 0 number self.old self.new }
         ensures put { Wrote (decimal number) self.old self.new }
     {
-        self.text(itoa::Buffer::new().format(number).as_bytes());
+        let tens = number / 10;
+        if number < 10 {
+            self.text(&[digit(number)]);
+        } else if number < 100 {
+            self.text(&[digit(tens), digit(number)]);
+        } else if number < 1000 {
+            self.text(&[digit(tens / 10), digit(tens), digit(number)]);
+        } else if number < 10_000 {
+            self.text(&[
+                digit(tens / 10 / 10),
+                digit(tens / 10),
+                digit(tens),
+                digit(number),
+            ]);
+        } else {
+            self.text(itoa::Buffer::new().format(number).as_bytes());
+        }
     }
 
     // The words, and then the number. There is room for the longest number.
