@@ -135,7 +135,7 @@ def public_functions(crate):
             # an impl that is empty ends on its own line
             if re.match(r"impl\b.*\{\}$", line):
                 continue
-            of_trait = re.match(r"impl(?:<[^>]*>)? (\w+)(?:<(?:\w+::)?(\w+)>)? for (\w+)", line)
+            of_trait = re.match(r"impl(?:<[^>]*>)? (?:\w+::)*(\w+)(?:<(?:\w+::)?(\w+)>)? for (\w+)", line)
             own = re.match(r"impl(?:<[^>]*>)? (\w+)", line)
             if of_trait:
                 trait, given, kind = of_trait.groups()
